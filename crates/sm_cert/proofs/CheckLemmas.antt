@@ -13,11 +13,11 @@ use Rattle.sm_report.specs.Heads.{HeadData}
 use Rattle.sm_report.specs.Lines.{LineData}
 use Rattle.sm_report.specs.Sound.{IsLineOf}
 use Rattle.sm_report.specs.Texts.{text_of_line}
-use Rattle.sm_check_answers.specs.declared.verdicts.Verdict.{Verdict}
+use Rattle.sm_check_clauses.specs.declared.verdicts.Verdict.{Verdict}
 use Rattle.sm_check_forms.specs.Forms.{fits, fits_two, AreAnswer}
-use Rattle.sm_check_answers.specs.Verdicts.{AtLine, IsVerdict}
-use Rattle.sm_check_answers.specs.Judging.{Subject, answer, couples, parties, Clauses, Holds}
-use Rattle.sm_check_answers.specs.Judges.{IsOwnLine, input_of}
+use Rattle.sm_check_clauses.specs.Verdicts.{AtLine, IsVerdict}
+use Rattle.sm_check_clauses.specs.Judging.{Subject, answer, couples, parties, Clauses, Holds}
+use Rattle.sm_check_clauses.specs.Judges.{IsOwnLine, input_of}
 use Rattle.sm_cert.specs.Checking.{first_head, says_none}
 
 -- each line of an answer is one of the instance, and of its form

@@ -18,13 +18,13 @@ use Rattle.sm_pairs.specs.Chosen.{chosen_places, head_for}
 use Rattle.sm_pairs.proofs.ChoiceLemmas.{chosen_assigned}
 use Rattle.sm_report.specs.Lines.{LineData}
 use Rattle.sm_report.specs.declared.keywords.Keyword.TheVariants as keyword
-use Rattle.sm_check_answers.specs.declared.verdicts.Reason.TheVariants as reason
+use Rattle.sm_check_clauses.specs.declared.verdicts.Reason.TheVariants as reason
 use Rattle.sm_check_forms.specs.Keywords.{keyword_number}
 use Rattle.sm_report.specs.Keywords.{keyword_of}
 use Rattle.sm_check_forms.specs.Forms.{layouts_of, given_layout}
-use Rattle.sm_check_answers.specs.Said.{pair_in, pairs_in, left_in, lefts_in, right_in, rights_in}
-use Rattle.sm_check_answers.specs.Pairs.{IsFree, IsWanted, AreAllThere}
-use Rattle.sm_check_answers.specs.Judging.{answer, Clauses}
+use Rattle.sm_check_clauses.specs.Said.{pair_in, pairs_in, left_in, lefts_in, right_in, rights_in}
+use Rattle.sm_check_clauses.specs.Pairs.{IsFree, IsWanted, AreAllThere}
+use Rattle.sm_check_clauses.specs.Judging.{answer, Clauses}
 use Rattle.sm_check_forms.specs.Laws.{closing_of}
 use Rattle.sm_cert.specs.Yes.{GetsYes, ArePairsOf, IsChosen, MeetYes, JoinYes}
 use Rattle.sm_check_answers.proofs.ChosenLemmas.{of_clauses}

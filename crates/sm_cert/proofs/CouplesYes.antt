@@ -16,13 +16,13 @@ use Rattle.sm_theory.specs.Rooms.{IsAcceptable, IsRoomStable, mate_of}
 use Rattle.sm_pairs.specs.Held.{partner_in}
 use Rattle.sm_lists.specs.Pairs.{pair_at}
 use Rattle.sm_report.specs.Lines.{LineData}
-use Rattle.sm_check_answers.specs.declared.verdicts.Reason.TheVariants as reason
+use Rattle.sm_check_clauses.specs.declared.verdicts.Reason.TheVariants as reason
 use Rattle.sm_check_forms.specs.Forms.{fits}
-use Rattle.sm_check_answers.specs.Said.{pair_in, pairs_in}
-use Rattle.sm_check_answers.specs.Rooming.{persons_of, both_ways, mates_in, IsFreeCouple}
+use Rattle.sm_check_clauses.specs.Said.{pair_in, pairs_in}
+use Rattle.sm_check_clauses.specs.Rooming.{persons_of, both_ways, mates_in, IsFreeCouple}
 use Rattle.sm_cert.specs.Yes.{AreApart, CouplesYes}
 use Rattle.sm_check_roommates.proofs.PersonLemmas.{of_among}
-use Rattle.sm_check_answers.proofs.JudgingLemmas.{passes_at}
+use Rattle.sm_check_clauses.proofs.JudgingLemmas.{passes_at}
 use Rattle.sm_check_roommates.proofs.CoupleLemmas.{partner_in-append, partner_there, none_where}
 use Rattle.sm_cert.proofs.YesPairs.{held_there, only_one, no_partner, given_there, pair_there, apart_more}
 use Rattle.sm_cert.proofs.YesLines.{right_couples, at_closing, said_above, grown}

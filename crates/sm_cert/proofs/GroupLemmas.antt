@@ -16,14 +16,14 @@ use Rattle.sm_report.specs.declared.keywords.Keyword.TheVariants as keyword
 use Rattle.sm_check_forms.specs.declared.layouts.LayoutPart.{LayoutPart}
 use Rattle.sm_check_forms.specs.declared.layouts.LayoutPart.TheVariants.{One, Many, Blocks}
 use Rattle.sm_check_forms.specs.declared.layouts.Opening.{Opening}
-use Rattle.sm_check_answers.specs.declared.verdicts.Reason.{Reason}
+use Rattle.sm_check_clauses.specs.declared.verdicts.Reason.{Reason}
 use Rattle.sm_check_forms.specs.Keywords.{keyword_number}
 use Rattle.sm_report.specs.Keywords.{keyword_of}
 use Rattle.sm_check_forms.specs.Layouts.{begins, keyword_at, behind, left_behind, is_empty, is_whole}
 use Rattle.sm_check_forms.specs.Forms.{layouts_of, opening_of}
-use Rattle.sm_check_answers.specs.Verdicts.{AtLine}
-use Rattle.sm_check_answers.specs.Said.{IsFirstBehind}
-use Rattle.sm_check_answers.specs.Judging.{Subject, Clauses}
+use Rattle.sm_check_clauses.specs.Verdicts.{AtLine}
+use Rattle.sm_check_clauses.specs.Said.{IsFirstBehind}
+use Rattle.sm_check_clauses.specs.Judging.{Subject, Clauses}
 use Rattle.sm_cert.specs.Yes.{GetsYes}
 use Rattle.sm_theory.proofs.Net.Tests.{and_parts}
 use Rattle.sm_check_forms.proofs.LayoutLemmas.{left_behind-none}

@@ -13,8 +13,8 @@ use Rattle.sm_report.specs.Sound.{IsLineOf}
 use Rattle.sm_report.specs.Texts.{text_of_line}
 use Rattle.sm_check_forms.specs.Layouts.{is_begun, is_whole}
 use Rattle.sm_check_forms.specs.Forms.{layouts_of, opening_of, fits, is_placed, AreFirstLines, AreAnswer, BeginAnAnswer, IsMisplaced}
-use Rattle.sm_check_answers.specs.Verdicts.{IsVerdict}
-use Rattle.sm_check_answers.specs.Judging.{Holds}
+use Rattle.sm_check_clauses.specs.Verdicts.{IsVerdict}
+use Rattle.sm_check_clauses.specs.Judging.{Holds}
 use Rattle.sm_cert.specs.Laws.{JudgedIsntBad, OneJudgement}
 use Rattle.sm_check_forms.proofs.LayoutLemmas.{whole_is_begun}
 use Rattle.sm_check_forms.proofs.TakingLemmas.{same_lines}

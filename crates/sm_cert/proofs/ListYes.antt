@@ -7,12 +7,12 @@ use Rattle.sm_lists.proofs.Counting.{lt_or_le}
 use Rattle.sm_instance.specs.Written.{Written}
 use Rattle.sm_theory.specs.Listings.{IsBehind, end_of}
 use Rattle.sm_report.specs.Lines.{LineData}
-use Rattle.sm_check_answers.specs.declared.verdicts.Reason.{Reason}
-use Rattle.sm_check_answers.specs.declared.verdicts.Reason.TheVariants as reason
+use Rattle.sm_check_clauses.specs.declared.verdicts.Reason.{Reason}
+use Rattle.sm_check_clauses.specs.declared.verdicts.Reason.TheVariants as reason
 use Rattle.sm_seats.specs.Vectors.{IsAllowedRankVector}
-use Rattle.sm_check_answers.specs.Verdicts.{AtLine}
-use Rattle.sm_check_answers.specs.Said.{vector_in, vectors_in}
-use Rattle.sm_check_answers.specs.Vectors.{ListHolds, VectorHolds, ListClauses, places_of_ranks}
+use Rattle.sm_check_clauses.specs.Verdicts.{AtLine}
+use Rattle.sm_check_clauses.specs.Said.{vector_in, vectors_in}
+use Rattle.sm_check_clauses.specs.Vectors.{ListHolds, VectorHolds, ListClauses, places_of_ranks}
 use Rattle.sm_cert.specs.Yes.{AreListed, ListYes}
 use Rattle.sm_cert.proofs.YesLines.{by_head, grown}
 

@@ -14,9 +14,9 @@ use Rattle.sm_theory.specs.Partitions.{successor_in, after, IsInOddParty}
 use Rattle.sm_theory.proofs.Room.Partitions.{odd_party_excludes}
 use Rattle.sm_report.specs.Lines.{LineData}
 use Rattle.sm_report.specs.Sound.{IsLineOf, IsOnLeft}
-use Rattle.sm_check_answers.specs.declared.verdicts.Reason.TheVariants as reason
-use Rattle.sm_check_answers.specs.Said.{party_in, parties_in}
-use Rattle.sm_check_answers.specs.Rooming.{members_of, next_of, nexts_of, AreNew, IsWholePartition, HasOddParty}
+use Rattle.sm_check_clauses.specs.declared.verdicts.Reason.TheVariants as reason
+use Rattle.sm_check_clauses.specs.Said.{party_in, parties_in}
+use Rattle.sm_check_clauses.specs.Rooming.{members_of, next_of, nexts_of, AreNew, IsWholePartition, HasOddParty}
 use Rattle.sm_check_roommates.specs.PartiesKept.{is_among, follower}
 use Rattle.sm_cert.specs.Yes.{NoneYes}
 use Rattle.sm_check_roommates.proofs.PersonLemmas.{of_among}

@@ -16,7 +16,7 @@ use Rattle.sm_report.specs.Lines.{LineData}
 use Rattle.sm_check_forms.specs.declared.layouts.LayoutPart.{LayoutPart}
 use Rattle.sm_check_forms.specs.Layouts.{is_whole}
 use Rattle.sm_check_forms.specs.Forms.{is_placed}
-use Rattle.sm_check_answers.specs.Said.{rotation_in, needs_in, is_up_to_rotations}
+use Rattle.sm_check_clauses.specs.Said.{rotation_in, needs_in, is_up_to_rotations}
 use Rattle.sm_check_weight.specs.Order.{AreNeedsInOrder}
 use Rattle.sm_cert.specs.Checking.{first_head}
 use Rattle.sm_cert.proofs.GroupLemmas.{AllOut, AreDown, all_down, down_taken, none_said}

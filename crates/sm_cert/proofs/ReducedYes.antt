@@ -10,12 +10,12 @@ use Rattle.sm_market.specs.Reduced.{reduced_row, reduced_lists_of}
 use Rattle.sm_seats.specs.SeatMarket.{seat_market}
 use Rattle.sm_report.specs.Heads.{HeadData}
 use Rattle.sm_report.specs.Lines.{LineData}
-use Rattle.sm_check_answers.specs.declared.verdicts.Reason.TheVariants as reason
+use Rattle.sm_check_clauses.specs.declared.verdicts.Reason.TheVariants as reason
 use Rattle.sm_check_forms.specs.Forms.{reduced_layout}
-use Rattle.sm_check_answers.specs.Said.{first_in, firsts_in, last_in, lasts_in, proposer_list_in, proposer_lists_in, reviewer_list_in, reviewer_lists_in, is_up_to_firsts, is_up_to_lasts}
-use Rattle.sm_check_answers.specs.SeatMatchings.{IsFreeSeat, seat_places_in, first_of, last_of}
-use Rattle.sm_check_answers.specs.Chain.{HasOneEach, owners, reduced_of, IsRowOf}
-use Rattle.sm_check_answers.specs.Judging.{answer, Clauses}
+use Rattle.sm_check_clauses.specs.Said.{first_in, firsts_in, last_in, lasts_in, proposer_list_in, proposer_lists_in, reviewer_list_in, reviewer_lists_in, is_up_to_firsts, is_up_to_lasts}
+use Rattle.sm_check_clauses.specs.SeatMatchings.{IsFreeSeat, seat_places_in, first_of, last_of}
+use Rattle.sm_check_clauses.specs.Chain.{HasOneEach, owners, reduced_of, IsRowOf}
+use Rattle.sm_check_clauses.specs.Judging.{answer, Clauses}
 use Rattle.sm_cert.specs.Yes.{AreAllLists, ReducedYes}
 use Rattle.sm_cert.proofs.GroupLemmas.{Begins, Parted, parted_behind, said_up, said_then, stands_behind}
 use Rattle.sm_cert.proofs.SeatYes.{first_words, last_words, firsts_tell, lasts_tell, no_first, no_first_then, no_last, free_seats, each_said}

@@ -14,7 +14,7 @@ use Rattle.sm_check_forms.specs.Keywords.{keyword_number}
 use Rattle.sm_report.specs.Keywords.{keyword_of}
 use Rattle.sm_check_forms.specs.Layouts.{behind, is_whole, is_empty, left_behind}
 use Rattle.sm_check_forms.specs.Forms.{blocks_of, opening_of}
-use Rattle.sm_check_answers.specs.Said.{first_in, rotation_in, rotations_in, needs_in, all_needs_in, is_up_to_rotations}
+use Rattle.sm_check_clauses.specs.Said.{first_in, rotation_in, rotations_in, needs_in, all_needs_in, is_up_to_rotations}
 use Rattle.sm_cert.proofs.GroupLemmas.{Tells, AllOut, AreDown, goes, all_down, none_said}
 use Rattle.sm_cert.proofs.YesLines.{no_line}
 

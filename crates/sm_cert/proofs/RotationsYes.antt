@@ -17,16 +17,16 @@ use Rattle.sm_seats.proofs.MarketLaws.{is_market}
 use Rattle.sm_seats.proofs.CorrespondenceLaws.{sound_entries}
 use Rattle.sm_report.specs.Heads.{HeadData}
 use Rattle.sm_report.specs.Lines.{LineData}
-use Rattle.sm_check_answers.specs.declared.verdicts.Reason.{Reason}
-use Rattle.sm_check_answers.specs.declared.verdicts.Reason.TheVariants as reason
+use Rattle.sm_check_clauses.specs.declared.verdicts.Reason.{Reason}
+use Rattle.sm_check_clauses.specs.declared.verdicts.Reason.TheVariants as reason
 use Rattle.sm_check_forms.specs.declared.layouts.LayoutPart.{LayoutPart}
 use Rattle.sm_check_forms.specs.Layouts.{is_whole}
 use Rattle.sm_check_forms.specs.Forms.{closing, rotations_layout, opening_of}
-use Rattle.sm_check_answers.specs.Said.{first_in, firsts_in, rotation_in, rotations_in, needs_in, all_needs_in, is_up_to_firsts, is_up_to_rotations}
-use Rattle.sm_check_answers.specs.SeatMatchings.{FirstsHold, IsFreeSeat, seat_places_in, first_of}
-use Rattle.sm_check_answers.specs.Chain.{ChainHolds, reached, last_rotation}
+use Rattle.sm_check_clauses.specs.Said.{first_in, firsts_in, rotation_in, rotations_in, needs_in, all_needs_in, is_up_to_firsts, is_up_to_rotations}
+use Rattle.sm_check_clauses.specs.SeatMatchings.{FirstsHold, IsFreeSeat, seat_places_in, first_of}
+use Rattle.sm_check_clauses.specs.Chain.{ChainHolds, reached, last_rotation}
 use Rattle.sm_check_forms.specs.Seats.{all_numbered}
-use Rattle.sm_check_answers.specs.Judging.{Subject, answer, Clauses}
+use Rattle.sm_check_clauses.specs.Judging.{Subject, answer, Clauses}
 use Rattle.sm_check_weight.proofs.NeedsLemmas.{needs_of_all}
 use Rattle.sm_cert.specs.Yes.{ArePairsOf, RotationsYes}
 use Rattle.sm_cert.proofs.GroupLemmas.{AllOut, Begins, Parted, parted_behind, said_up, said_then, stands_behind}

@@ -12,8 +12,8 @@ use Rattle.sm_pairs.specs.Held.{partner_in}
 use Rattle.sm_report.specs.Lines.{LineData}
 use Rattle.sm_check_forms.specs.Keywords.{keyword_number}
 use Rattle.sm_report.specs.Keywords.{keyword_of}
-use Rattle.sm_check_answers.specs.Said.{first_in, last_in, is_up_to_firsts, is_up_to_lasts}
-use Rattle.sm_check_answers.specs.SeatMatchings.{IsFreeSeat, seat_places_in}
+use Rattle.sm_check_clauses.specs.Said.{first_in, last_in, is_up_to_firsts, is_up_to_lasts}
+use Rattle.sm_check_clauses.specs.SeatMatchings.{IsFreeSeat, seat_places_in}
 use Rattle.sm_cert.specs.Yes.{ArePairsOf}
 use Rattle.sm_cert.proofs.GroupLemmas.{Tells}
 use Rattle.sm_cert.proofs.YesLines.{grown}

@@ -1,12 +1,12 @@
 -- There is no more than one verdict.
 use Rattle.std.proofs.Common.{◌≡◌, ℕ, ◌+◌, ◌≤◌, inl, inr, arith, refl, sym, ap, ◌∙◌, List, [], ◌∷◌, slice_index_or}
 use Rattle.sm_lists.proofs.Counting.{lt_or_le}
-use Rattle.sm_check_answers.specs.declared.verdicts.Reason.{Reason}
-use Rattle.sm_check_answers.specs.declared.verdicts.Reason.TheVariants as reason
-use Rattle.sm_check_answers.specs.declared.verdicts.Verdict.{Verdict}
-use Rattle.sm_check_answers.specs.declared.verdicts.Verdict.TheVariants as verdict
-use Rattle.sm_check_answers.specs.Verdicts.{IsVerdict, IsFirstFailure, number_of_reason}
-use Rattle.sm_check_answers.specs.Judging.{Holds}
+use Rattle.sm_check_clauses.specs.declared.verdicts.Reason.{Reason}
+use Rattle.sm_check_clauses.specs.declared.verdicts.Reason.TheVariants as reason
+use Rattle.sm_check_clauses.specs.declared.verdicts.Verdict.{Verdict}
+use Rattle.sm_check_clauses.specs.declared.verdicts.Verdict.TheVariants as verdict
+use Rattle.sm_check_clauses.specs.Verdicts.{IsVerdict, IsFirstFailure, number_of_reason}
+use Rattle.sm_check_clauses.specs.Judging.{Holds}
 use Rattle.sm_cert.specs.Laws.{OneVerdict}
 
 reasons : List Reason

@@ -23,17 +23,17 @@ use Rattle.sm_report.specs.declared.lines.Seat.{Seat}
 use Rattle.sm_report.specs.Heads.{HeadData}
 use Rattle.sm_report.specs.Lines.{LineData}
 use Rattle.sm_report.specs.Texts.{SINK}
-use Rattle.sm_check_answers.specs.declared.verdicts.Reason.{Reason}
-use Rattle.sm_check_answers.specs.declared.verdicts.Reason.TheVariants as reason
-use Rattle.sm_check_answers.specs.Verdicts.{number_of_reason}
-use Rattle.sm_check_answers.specs.Said.{first_in, firsts_in, rotation_in, rotations_in, needs_in, gain_in, taken_in, pair_in, pairs_in, is_end, is_up_to_firsts, is_up_to_rotations, IsFirstBehind}
-use Rattle.sm_check_answers.specs.Pairs.{IsWanted, WantedHold, AreAllThere}
-use Rattle.sm_check_answers.specs.SeatMatchings.{IsFreeSeat, FirstsHold, first_of}
-use Rattle.sm_check_answers.specs.Chain.{reached, last_rotation, ChainHolds}
-use Rattle.sm_check_answers.specs.Flows.{net_in, first_level, LevelHolds, TakenHolds, IsAllowedSet, taken_matching, WeightHolds}
+use Rattle.sm_check_clauses.specs.declared.verdicts.Reason.{Reason}
+use Rattle.sm_check_clauses.specs.declared.verdicts.Reason.TheVariants as reason
+use Rattle.sm_check_clauses.specs.Verdicts.{number_of_reason}
+use Rattle.sm_check_clauses.specs.Said.{first_in, firsts_in, rotation_in, rotations_in, needs_in, gain_in, taken_in, pair_in, pairs_in, is_end, is_up_to_firsts, is_up_to_rotations, IsFirstBehind}
+use Rattle.sm_check_clauses.specs.Pairs.{IsWanted, WantedHold, AreAllThere}
+use Rattle.sm_check_clauses.specs.SeatMatchings.{IsFreeSeat, FirstsHold, first_of}
+use Rattle.sm_check_clauses.specs.Chain.{reached, last_rotation, ChainHolds}
+use Rattle.sm_check_clauses.specs.Flows.{net_in, first_level, LevelHolds, TakenHolds, IsAllowedSet, taken_matching, WeightHolds}
 use Rattle.sm_report.specs.Witnesses.{first_seat_of}
 use Rattle.sm_cert.specs.WitnessesWeight.{three_by_three, weight_lines, WeightAnswers}
-use Rattle.sm_check_answers.proofs.LinewiseLemmas.{AllHold, hold_at, hold_append, all_hold, no_end}
+use Rattle.sm_check_clauses.proofs.LinewiseLemmas.{AllHold, hold_at, hold_append, all_hold, no_end}
 
 -- The clauses at lines that are none of theirs.
 NotFirst : (above : List LineData) (x : LineData) → (is_up_to : LineData → Bool) → is_up_to x ≡ true → IsFirstBehind is_up_to above x → ⊥

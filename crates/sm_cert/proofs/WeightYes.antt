@@ -41,15 +41,15 @@ use Rattle.sm_report.specs.Lines.{LineData}
 use Rattle.sm_check_forms.specs.declared.layouts.LayoutPart.{LayoutPart}
 use Rattle.sm_check_net.specs.CheckedNets.{AreNumbersBelow}
 use Rattle.sm_check_net.proofs.EdgeLemmas.{edges_are_on_nodes}
-use Rattle.sm_check_answers.specs.declared.verdicts.Reason.{Reason}
-use Rattle.sm_check_answers.specs.declared.verdicts.Reason.TheVariants as reason
+use Rattle.sm_check_clauses.specs.declared.verdicts.Reason.{Reason}
+use Rattle.sm_check_clauses.specs.declared.verdicts.Reason.TheVariants as reason
 use Rattle.sm_check_forms.specs.Layouts.{is_whole}
 use Rattle.sm_check_forms.specs.Forms.{weight_layout, layouts_of, opening_of}
-use Rattle.sm_check_answers.specs.Said.{first_in, firsts_in, rotation_in, rotations_in, needs_in, all_needs_in, flow_in, flows_in, second_flow_in, taken_in, value_in, second_value_in, pair_in, pairs_in, first_said, is_up_to_rotations}
-use Rattle.sm_check_answers.specs.SeatMatchings.{seat_places_in, first_of}
-use Rattle.sm_check_answers.specs.Pairs.{IsWanted, AreAllThere}
-use Rattle.sm_check_answers.specs.Flows.{Level, net_in, on_nodes, flow_of, first_level, second_level, last_level, LevelHolds, set_of_numbers, taken_set, taken_matching}
-use Rattle.sm_check_answers.specs.Judging.{answer, Clauses}
+use Rattle.sm_check_clauses.specs.Said.{first_in, firsts_in, rotation_in, rotations_in, needs_in, all_needs_in, flow_in, flows_in, second_flow_in, taken_in, value_in, second_value_in, pair_in, pairs_in, first_said, is_up_to_rotations}
+use Rattle.sm_check_clauses.specs.SeatMatchings.{seat_places_in, first_of}
+use Rattle.sm_check_clauses.specs.Pairs.{IsWanted, AreAllThere}
+use Rattle.sm_check_clauses.specs.Flows.{Level, net_in, on_nodes, flow_of, first_level, second_level, last_level, LevelHolds, set_of_numbers, taken_set, taken_matching}
+use Rattle.sm_check_clauses.specs.Judging.{answer, Clauses}
 use Rattle.sm_check_weight.proofs.SecondLemmas.{second_edges_on_nodes}
 use Rattle.sm_cert.specs.Yes.{ArePairsOf, GetsYes, IsFullFlow, HasLightestWeight, WeightYes}
 use Rattle.sm_instance.specs.Lightest.{IsLightestByBoth}

@@ -12,17 +12,17 @@ use Rattle.sm_report.specs.declared.lines.Seat.{Seat}
 use Rattle.sm_report.specs.Heads.{HeadData}
 use Rattle.sm_report.specs.Lines.{LineData}
 use Rattle.sm_report.specs.Sound.{IsLineOf}
-use Rattle.sm_check_answers.specs.declared.verdicts.Reason.{Reason}
-use Rattle.sm_check_answers.specs.declared.verdicts.Reason.TheVariants as reason
-use Rattle.sm_check_answers.specs.Verdicts.{number_of_reason}
+use Rattle.sm_check_clauses.specs.declared.verdicts.Reason.{Reason}
+use Rattle.sm_check_clauses.specs.declared.verdicts.Reason.TheVariants as reason
+use Rattle.sm_check_clauses.specs.Verdicts.{number_of_reason}
 use Rattle.sm_check_forms.specs.Forms.{AreAnswer}
-use Rattle.sm_check_answers.specs.Said.{party_in, is_end}
-use Rattle.sm_check_answers.specs.Chain.{RotationsHold}
-use Rattle.sm_check_answers.specs.Rooming.{PartiesHold, AreNew, IsWholePartition, HasOddParty, members_of}
-use Rattle.sm_check_answers.specs.Judging.{Subject, Clauses}
+use Rattle.sm_check_clauses.specs.Said.{party_in, is_end}
+use Rattle.sm_check_clauses.specs.Chain.{RotationsHold}
+use Rattle.sm_check_clauses.specs.Rooming.{PartiesHold, AreNew, IsWholePartition, HasOddParty, members_of}
+use Rattle.sm_check_clauses.specs.Judging.{Subject, Clauses}
 use Rattle.sm_cert.specs.Witnesses.{five, odd_answer, odd_lines, OddAnswers, two_by_two, worst_first, FirstIsntBest}
 use Rattle.sm_report.specs.Witnesses.{first_seat_of}
-use Rattle.sm_check_answers.proofs.LinewiseLemmas.{AllHold, hold_at, all_hold, no_end}
+use Rattle.sm_check_clauses.proofs.LinewiseLemmas.{AllHold, hold_at, all_hold, no_end}
 
 -- The odd party.
 none_of : (P : Seat → Type 0) → All P []

@@ -14,11 +14,11 @@ use Rattle.sm_report.specs.Heads.{HeadData}
 use Rattle.sm_report.specs.Lines.{LineData}
 use Rattle.sm_report.specs.declared.keywords.Keyword.TheVariants as keyword
 use Rattle.sm_check_forms.specs.declared.layouts.Opening.{Opening}
-use Rattle.sm_check_answers.specs.declared.verdicts.Reason.{Reason}
+use Rattle.sm_check_clauses.specs.declared.verdicts.Reason.{Reason}
 use Rattle.sm_check_forms.specs.Layouts.{begins, is_whole}
 use Rattle.sm_check_forms.specs.Forms.{layouts_of, opening_of, is_placed}
-use Rattle.sm_check_answers.specs.Verdicts.{AtLine}
-use Rattle.sm_check_answers.specs.Judging.{Subject, answer, couples, parties, Clauses, Holds}
+use Rattle.sm_check_clauses.specs.Verdicts.{AtLine}
+use Rattle.sm_check_clauses.specs.Judging.{Subject, answer, couples, parties, Clauses, Holds}
 use Rattle.sm_check_forms.specs.Laws.{closing_of, EndsWith}
 use Rattle.sm_cert.specs.Yes.{GetsYes}
 use Rattle.sm_check_forms.proofs.LayoutLemmas.{whole_ends}

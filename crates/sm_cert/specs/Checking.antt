@@ -9,7 +9,7 @@ use Rattle.sm_seats.specs.declared.faults.SeatsFault.{SeatsFault}
 use Rattle.sm_seats.specs.declared.faults.SeatsFault.TheVariants as seats
 use Rattle.sm_cert.specs.declared.faults.CertFault.{CertFault}
 use Rattle.sm_cert.specs.declared.faults.CertFault.TheVariants.{TooManySeats, BadAnswer, OutOfMemory}
-use Rattle.sm_check_answers.specs.Judging.{IsBadAnswerAt}
+use Rattle.sm_check_clauses.specs.Judging.{IsBadAnswerAt}
 
 -- the seats of an instance with two sides have few enough entries; or this is the first reviewer with whom they have too many
 abbrev pub HasFewSeats : Input → Type 0

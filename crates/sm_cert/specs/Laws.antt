@@ -3,9 +3,9 @@ use Rattle.std.specs.Prelude.{◌≡◌, ℕ, List}
 use Rattle.sm_instance.specs.Inputs.{IsInput}
 use Rattle.sm_instance.specs.declared.inputs.Input.{Input}
 use Rattle.sm_report.specs.Lines.{LineData}
-use Rattle.sm_check_answers.specs.declared.verdicts.Verdict.{Verdict}
-use Rattle.sm_check_answers.specs.Verdicts.{IsVerdict}
-use Rattle.sm_check_answers.specs.Judging.{Holds, IsJudged, IsBadAnswerAt}
+use Rattle.sm_check_clauses.specs.declared.verdicts.Verdict.{Verdict}
+use Rattle.sm_check_clauses.specs.Verdicts.{IsVerdict}
+use Rattle.sm_check_clauses.specs.Judging.{Holds, IsJudged, IsBadAnswerAt}
 
 -- there is no more than one verdict on an answer
 abbrev pub OneVerdict : Type 0

@@ -6,10 +6,10 @@ use Rattle.sm_instance.specs.declared.kinds.Kind.TheVariants.{Marriage}
 use Rattle.sm_report.specs.Heads.{HeadData}
 use Rattle.sm_report.specs.Lines.{LineData}
 use Rattle.sm_report.specs.Witnesses.{first_seat_of}
-use Rattle.sm_check_answers.specs.declared.verdicts.Reason.TheVariants as reason
-use Rattle.sm_check_answers.specs.declared.verdicts.Verdict.TheVariants as verdict
-use Rattle.sm_check_answers.specs.Verdicts.{IsVerdict}
-use Rattle.sm_check_answers.specs.Judging.{Holds, IsJudged}
+use Rattle.sm_check_clauses.specs.declared.verdicts.Reason.TheVariants as reason
+use Rattle.sm_check_clauses.specs.declared.verdicts.Verdict.TheVariants as verdict
+use Rattle.sm_check_clauses.specs.Verdicts.{IsVerdict}
+use Rattle.sm_check_clauses.specs.Judging.{Holds, IsJudged}
 
 -- an agent of this name with one place, on a line of its own
 abbrev pub agent : List ℕ → ℕ → List ℕ → AgentData

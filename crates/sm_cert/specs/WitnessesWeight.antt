@@ -12,14 +12,14 @@ use Rattle.sm_theory.specs.WitnessesFlows.{three_cycle_weights, three_cycle_leve
 use Rattle.sm_seats.specs.SeatMarket.{seat_market}
 use Rattle.sm_seats.specs.Seating.{seating_of, levels_of}
 use Rattle.sm_seats.specs.Correspondence.{weights_of}
-use Rattle.sm_check_answers.specs.declared.verdicts.Reason.TheVariants as reason
-use Rattle.sm_check_answers.specs.declared.verdicts.Verdict.TheVariants as verdict
+use Rattle.sm_check_clauses.specs.declared.verdicts.Reason.TheVariants as reason
+use Rattle.sm_check_clauses.specs.declared.verdicts.Verdict.TheVariants as verdict
 use Rattle.sm_check_forms.specs.Layouts.{is_whole}
 use Rattle.sm_check_forms.specs.Forms.{is_placed}
-use Rattle.sm_check_answers.specs.Verdicts.{IsVerdict}
-use Rattle.sm_check_answers.specs.Said.{rotations_in, all_needs_in}
-use Rattle.sm_check_answers.specs.SeatMatchings.{first_of}
-use Rattle.sm_check_answers.specs.Judging.{Holds}
+use Rattle.sm_check_clauses.specs.Verdicts.{IsVerdict}
+use Rattle.sm_check_clauses.specs.Said.{rotations_in, all_needs_in}
+use Rattle.sm_check_clauses.specs.SeatMatchings.{first_of}
+use Rattle.sm_check_clauses.specs.Judging.{Holds}
 use Rattle.sm_cert.specs.Witnesses.{agent}
 use Rattle.sm_report.specs.Witnesses.{first_seat_of}
 

@@ -30,13 +30,13 @@ use Rattle.sm_lists.specs.Pairs.{pair_at}
 use Rattle.sm_pairs.specs.Chosen.{chosen_places}
 use Rattle.sm_report.specs.Heads.{HeadData}
 use Rattle.sm_report.specs.Lines.{LineData}
-use Rattle.sm_check_answers.specs.declared.verdicts.Verdict.TheVariants as verdict
-use Rattle.sm_check_answers.specs.Verdicts.{IsVerdict}
+use Rattle.sm_check_clauses.specs.declared.verdicts.Verdict.TheVariants as verdict
+use Rattle.sm_check_clauses.specs.Verdicts.{IsVerdict}
 use Rattle.sm_check_forms.specs.Forms.{AreAnswer}
-use Rattle.sm_check_answers.specs.Said.{pairs_in, firsts_in, lasts_in, proposer_lists_in, reviewer_lists_in, rotations_in, all_needs_in, lefts_in, rights_in, regret_in, total_in, second_total_in, vectors_in}
-use Rattle.sm_check_answers.specs.Chain.{HasOneEach, owners, IsRowOf}
-use Rattle.sm_check_answers.specs.Judging.{Holds}
-use Rattle.sm_check_answers.specs.Flows.{net_in, flow_of, first_level, second_level, taken_set}
+use Rattle.sm_check_clauses.specs.Said.{pairs_in, firsts_in, lasts_in, proposer_lists_in, reviewer_lists_in, rotations_in, all_needs_in, lefts_in, rights_in, regret_in, total_in, second_total_in, vectors_in}
+use Rattle.sm_check_clauses.specs.Chain.{HasOneEach, owners, IsRowOf}
+use Rattle.sm_check_clauses.specs.Judging.{Holds}
+use Rattle.sm_check_clauses.specs.Flows.{net_in, flow_of, first_level, second_level, taken_set}
 use Rattle.sm_instance.specs.Lightest.{IsLightestByBoth}
 
 -- an answer with this head that gets a yes

@@ -12,16 +12,14 @@ ghost use Rattle.sm_seats.specs.SeatEntries.{AreFewSeats};
 ghost use Rattle.sm_check_forms.specs.Forms.{AreAnswer, is_placed};
 ghost use Rattle.sm_check_forms.specs.Layouts.{is_whole};
 ghost use Rattle.sm_check_forms.specs.Seats.{AreFirsts};
-ghost use Rattle.sm_check_answers.specs.Verdicts.{AtLine, IsVerdict};
-ghost use Rattle.sm_check_answers.specs.Judging.{Subject, answer, couples, parties, Clauses, Holds, IsJudged};
-ghost use Rattle.sm_check_answers.specs.Judges.{IsOwnLine, input_of};
+ghost use Rattle.sm_check_clauses.specs.Verdicts.{AtLine, IsVerdict};
+ghost use Rattle.sm_check_clauses.specs.Judging.{Subject, answer, couples, parties, Clauses, Holds, IsJudged};
+ghost use Rattle.sm_check_clauses.specs.Judges.{IsOwnLine, input_of};
 ghost use Rattle.sm_cert.specs.Checking.{HasFewSeats, IsCertFault, first_head, says_none};
 
 use crate::faults::CertFault;
-use sm_check_answers::{
-    Verdict, chosen_verdict, list_verdict, reduced_verdict, regret_verdict, rotations_verdict,
-    solve_verdict,
-};
+use sm_check_answers::{chosen_verdict, list_verdict, reduced_verdict, regret_verdict, rotations_verdict, solve_verdict};
+use sm_check_clauses::Verdict;
 use sm_check_forms::{AnswerFault, read_answer};
 use sm_check_roommates::{couples_verdict, parties_verdict};
 use sm_check_weight::{Weighed, weight_verdict};

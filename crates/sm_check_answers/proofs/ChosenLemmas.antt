@@ -15,16 +15,16 @@ use Rattle.sm_pairs.proofs.HoldingLemmas.{places_later}
 use Rattle.sm_pairs.proofs.ChoiceLemmas.{chosen_assigned, left_changed, right_changed}
 use Rattle.sm_report.specs.Lines.{LineData, line_of}
 use Rattle.sm_report.specs.declared.lines.Line.{Line}
-use Rattle.sm_check_answers.specs.declared.verdicts.Reason.{Reason}
-use Rattle.sm_check_answers.specs.declared.verdicts.Reason.TheVariants as reason
-use Rattle.sm_check_answers.specs.Judging.{TwoClauses}
-use Rattle.sm_check_answers.specs.Pairs.{IsFree, IsWanted, AreAllThere, ChosenHold}
-use Rattle.sm_check_answers.specs.PairsKept.{ArePairsHeld, HasJoined}
-use Rattle.sm_check_answers.specs.Said.{pair_in, left_in, right_in, pairs_in, lefts_in, rights_in}
-use Rattle.sm_check_answers.specs.Verdicts.{number_of_reason}
+use Rattle.sm_check_clauses.specs.declared.verdicts.Reason.{Reason}
+use Rattle.sm_check_clauses.specs.declared.verdicts.Reason.TheVariants as reason
+use Rattle.sm_check_clauses.specs.Judging.{TwoClauses}
+use Rattle.sm_check_clauses.specs.Pairs.{IsFree, IsWanted, AreAllThere, ChosenHold}
+use Rattle.sm_check_clauses.specs.PairsKept.{ArePairsHeld, HasJoined}
+use Rattle.sm_check_clauses.specs.Said.{pair_in, left_in, right_in, pairs_in, lefts_in, rights_in}
+use Rattle.sm_check_clauses.specs.Verdicts.{number_of_reason}
 use Rattle.sm_check_answers.specs.ChosenKept.{AreChosenKept}
 use Rattle.sm_check_answers.specs.Stood.{AreStood}
-use Rattle.sm_check_answers.proofs.AnswerLemmas.{said_same, said_one}
+use Rattle.sm_check_clauses.proofs.AnswerLemmas.{said_same, said_one}
 
 -- what is wanted is on the proposers' lists
 pub wanted_assigned : (choice : Choice) (w : Written) (above : List LineData) (left right : Holding) (wanted : List (Option ℕ)) (stood : List Bool) → AreChosenKept choice w above left right wanted stood

@@ -1,15 +1,9 @@
-pub mod JudgingLemmas
-pub mod LinewiseLemmas
 pub mod ListingLemmas
 pub mod SolvingLemmas
-pub mod SeatPairLemmas
-pub mod WalkLemmas
 pub mod SeatListLemmas
 pub mod ReducedLemmas
 pub mod TriedLemmas
 pub mod VectorLemmas
-pub mod AnswerLemmas
-pub mod PairLemmas
 pub mod RegretLemmas
 pub mod WantedLemmas
 pub mod ChosenLemmas

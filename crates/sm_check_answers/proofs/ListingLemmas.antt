@@ -7,15 +7,15 @@ use Rattle.sm_theory.specs.Listings.{end_of}
 use Rattle.sm_report.specs.declared.lines.Line.{Line}
 use Rattle.sm_report.specs.declared.lines.Line.TheVariants as line
 use Rattle.sm_report.specs.Lines.{LineData, line_of}
-use Rattle.sm_check_answers.specs.declared.verdicts.Reason.{Reason}
-use Rattle.sm_check_answers.specs.Verdicts.{Finds}
-use Rattle.sm_check_answers.specs.Said.{vector_in, vectors_in}
-use Rattle.sm_check_answers.specs.Vectors.{places_of_ranks, VectorHolds, MoreHolds, ListHolds, ListClauses}
+use Rattle.sm_check_clauses.specs.declared.verdicts.Reason.{Reason}
+use Rattle.sm_check_clauses.specs.Verdicts.{Finds}
+use Rattle.sm_check_clauses.specs.Said.{vector_in, vectors_in}
+use Rattle.sm_check_clauses.specs.Vectors.{places_of_ranks, VectorHolds, MoreHolds, ListHolds, ListClauses}
 use Rattle.sm_check_answers.specs.Tried.{HasTrialRoom, IsTried}
 use Rattle.sm_check_answers.specs.declared.tried.Tried.{Tried}
 use Rattle.sm_check_forms.specs.Forms.{fits_two}
-use Rattle.sm_check_answers.specs.Walking.{FindsOrKeeps}
-use Rattle.sm_check_answers.proofs.AnswerLemmas.{finds_keeping}
+use Rattle.sm_check_clauses.specs.Walking.{FindsOrKeeps}
+use Rattle.sm_check_clauses.proofs.AnswerLemmas.{finds_keeping}
 use Rattle.sm_check_answers.specs.Listing.{last_or, AreVectorsKept}
 
 -- the last vector of two lists is that of the second, or else of the first

@@ -12,24 +12,24 @@ use Rattle.sm_report.specs.Heads.{HeadData}
 use Rattle.sm_report.specs.declared.heads.Head.{Head}
 use Rattle.sm_report.specs.declared.lines.Line.{Line}
 use Rattle.sm_report.specs.Lines.{LineData, line_of}
-use Rattle.sm_check_answers.specs.declared.verdicts.Reason.{Reason}
-use Rattle.sm_check_answers.specs.declared.verdicts.Reason.TheVariants as reason
-use Rattle.sm_check_answers.specs.declared.seat_pairs.SeatPairs.{SeatPairs}
+use Rattle.sm_check_clauses.specs.declared.verdicts.Reason.{Reason}
+use Rattle.sm_check_clauses.specs.declared.verdicts.Reason.TheVariants as reason
+use Rattle.sm_check_clauses.specs.declared.seat_pairs.SeatPairs.{SeatPairs}
 use Rattle.sm_check_answers.specs.declared.seat_lists.SeatLists.{SeatLists}
 use Rattle.sm_check_answers.specs.declared.reduced.Group.{Group}
 use Rattle.sm_check_answers.specs.declared.reduced.Group.TheVariants as group
 use Rattle.sm_check_forms.specs.Seats.{seat_number}
-use Rattle.sm_check_answers.specs.Said.{first_in, firsts_in, last_in, lasts_in, proposer_list_in, proposer_lists_in, reviewer_list_in, reviewer_lists_in, is_end, is_up_to_firsts, is_up_to_lasts, IsFirstBehind}
-use Rattle.sm_check_answers.specs.SeatMatchings.{IsFreeSeat, FirstsHold, LastsHold, first_of, last_of, seat_places_in, AreSeatPairs}
-use Rattle.sm_check_answers.specs.SeatPairsKept.{HasTakenSeat}
-use Rattle.sm_check_answers.specs.Chain.{ListsHold, ReducedHold, IsRowOf, reduced_of, owners}
+use Rattle.sm_check_clauses.specs.Said.{first_in, firsts_in, last_in, lasts_in, proposer_list_in, proposer_lists_in, reviewer_list_in, reviewer_lists_in, is_end, is_up_to_firsts, is_up_to_lasts, IsFirstBehind}
+use Rattle.sm_check_clauses.specs.SeatMatchings.{IsFreeSeat, FirstsHold, LastsHold, first_of, last_of, seat_places_in, AreSeatPairs}
+use Rattle.sm_check_clauses.specs.SeatPairsKept.{HasTakenSeat}
+use Rattle.sm_check_clauses.specs.Chain.{ListsHold, ReducedHold, IsRowOf, reduced_of, owners}
 use Rattle.sm_check_answers.specs.ListsKept.{AreLists, AreListsOf, AreListsBehind}
 use Rattle.sm_check_answers.specs.ReducedKept.{IsTriedFirst, IsGroupAt, IsReducedOf}
-use Rattle.sm_check_answers.specs.Verdicts.{IsFirstThere, Finds, number_of_reason}
-use Rattle.sm_check_answers.specs.Walking.{FindsOrKeeps}
-use Rattle.sm_check_answers.proofs.AnswerLemmas.{found_by, said_same, said_one}
+use Rattle.sm_check_clauses.specs.Verdicts.{IsFirstThere, Finds, number_of_reason}
+use Rattle.sm_check_clauses.specs.Walking.{FindsOrKeeps}
+use Rattle.sm_check_clauses.proofs.AnswerLemmas.{found_by, said_same, said_one}
 use Rattle.sm_check_forms.proofs.TakingLemmas.{and_left, and_right, all_more}
-use Rattle.sm_check_answers.proofs.SeatPairLemmas.{none_free}
+use Rattle.sm_check_clauses.proofs.SeatPairLemmas.{none_free}
 use Rattle.sm_check_answers.proofs.SeatListLemmas.{no_list}
 
 -- a line that is up to the last seats says nothing of the lists, and one that isn't says nothing of the seats

@@ -9,17 +9,17 @@ use Rattle.std.proofs.lemmas.List.Elements.{filter_map-append}
 use Rattle.sm_instance.specs.Written.{Written}
 use Rattle.sm_report.specs.Lines.{LineData}
 use Rattle.sm_pairs.specs.declared.holding.Holding.{Holding}
-use Rattle.sm_check_answers.specs.declared.verdicts.Reason.{Reason}
-use Rattle.sm_check_answers.specs.declared.verdicts.Reason.TheVariants as reason
-use Rattle.sm_check_answers.specs.Verdicts.{Finds}
-use Rattle.sm_check_answers.specs.Said.{pair_in, pairs_in, regret_in, first_said}
+use Rattle.sm_check_clauses.specs.declared.verdicts.Reason.{Reason}
+use Rattle.sm_check_clauses.specs.declared.verdicts.Reason.TheVariants as reason
+use Rattle.sm_check_clauses.specs.Verdicts.{Finds}
+use Rattle.sm_check_clauses.specs.Said.{pair_in, pairs_in, regret_in, first_said}
 use Rattle.sm_pairs.specs.Held.{places_in}
-use Rattle.sm_check_answers.specs.Pairs.{IsFree}
-use Rattle.sm_check_answers.specs.Vectors.{RegretHolds, RegretClauses}
+use Rattle.sm_check_clauses.specs.Pairs.{IsFree}
+use Rattle.sm_check_clauses.specs.Vectors.{RegretHolds, RegretClauses}
 use Rattle.sm_check_answers.specs.Regrets.{EndOfRegret, AreRegretsKept}
-use Rattle.sm_check_answers.specs.Walking.{FindsOrKeeps}
-use Rattle.sm_check_answers.specs.PairsKept.{ArePairsHeld}
-use Rattle.sm_check_answers.proofs.AnswerLemmas.{found_by, first_more}
+use Rattle.sm_check_clauses.specs.Walking.{FindsOrKeeps}
+use Rattle.sm_check_clauses.specs.PairsKept.{ArePairsHeld}
+use Rattle.sm_check_clauses.proofs.AnswerLemmas.{found_by, first_more}
 
 module _ (w : Written) (regret : ℕ) (pairs : List (ℕ × ℕ)) where
   -- at a line with a pair

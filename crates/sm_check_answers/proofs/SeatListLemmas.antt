@@ -14,17 +14,17 @@ use Rattle.sm_seats.specs.SeatMarket.{seat_market}
 use Rattle.sm_report.specs.declared.lines.Seat.{Seat}
 use Rattle.sm_report.specs.declared.lines.Line.{Line}
 use Rattle.sm_report.specs.Lines.{LineData, line_of}
-use Rattle.sm_check_answers.specs.declared.verdicts.Reason.{Reason}
-use Rattle.sm_check_answers.specs.declared.verdicts.Reason.TheVariants as reason
+use Rattle.sm_check_clauses.specs.declared.verdicts.Reason.{Reason}
+use Rattle.sm_check_clauses.specs.declared.verdicts.Reason.TheVariants as reason
 use Rattle.sm_check_answers.specs.declared.seat_lists.SeatLists.{SeatLists}
 use Rattle.sm_check_forms.specs.Seats.{seat_number, seat_numbers}
-use Rattle.sm_check_answers.specs.Said.{proposer_list_in, proposer_lists_in, reviewer_list_in, reviewer_lists_in, is_end}
-use Rattle.sm_check_answers.specs.SeatMatchings.{first_of}
-use Rattle.sm_check_answers.specs.Chain.{HasOneEach, owners, reduced_of, IsRowOf, ListsAreRight, ListsHold}
+use Rattle.sm_check_clauses.specs.Said.{proposer_list_in, proposer_lists_in, reviewer_list_in, reviewer_lists_in, is_end}
+use Rattle.sm_check_clauses.specs.SeatMatchings.{first_of}
+use Rattle.sm_check_clauses.specs.Chain.{HasOneEach, owners, reduced_of, IsRowOf, ListsAreRight, ListsHold}
 use Rattle.sm_check_answers.specs.ListsKept.{AreTimes, AreListsOf, AreListsBehind}
-use Rattle.sm_check_answers.specs.Verdicts.{IsFirstThere, number_of_reason}
-use Rattle.sm_check_answers.proofs.AnswerLemmas.{said_same, said_one}
-use Rattle.sm_check_answers.proofs.SeatPairLemmas.{counted, passed_over}
+use Rattle.sm_check_clauses.specs.Verdicts.{IsFirstThere, number_of_reason}
+use Rattle.sm_check_clauses.proofs.AnswerLemmas.{said_same, said_one}
+use Rattle.sm_check_clauses.proofs.SeatPairLemmas.{counted, passed_over}
 
 -- one owner more
 count_more : (agents : List ℕ) (a b : ℕ) → count_by (λ y. y == b) (agents ++ a ∷ []) ≡ count_by (λ y. y == b) agents + cond (a == b) 1 0

@@ -15,9 +15,9 @@ use Rattle.sm_instance.proofs.ListLemmas.{row_in_range}
 use Rattle.sm_instance.proofs.PlaceLemmas.{place_of-entry}
 use Rattle.sm_instance.proofs.AcceptLemmas.{cross_some, accepts_at, one_sided_at}
 use Rattle.sm_instance.proofs.LoadLemmas.{load_before-suc, test_cases, place_at, at_place}
-use Rattle.sm_check_answers.specs.declared.verdicts.Reason.{Reason}
-use Rattle.sm_check_answers.specs.declared.verdicts.Reason.TheVariants as reason
-use Rattle.sm_check_answers.specs.Verdicts.{number_of_reason, IsFirstThere}
+use Rattle.sm_check_clauses.specs.declared.verdicts.Reason.{Reason}
+use Rattle.sm_check_clauses.specs.declared.verdicts.Reason.TheVariants as reason
+use Rattle.sm_check_clauses.specs.Verdicts.{number_of_reason, IsFirstThere}
 use Rattle.sm_check_answers.specs.declared.tried.Tried.{Tried}
 use Rattle.sm_check_answers.specs.Tried.{IsTried, StableHolds, AreLimits, is_touched, IsTouchedAt, AreTouched, IsUnblockedFrom, BlocksNoneFrom, AreSet}
 

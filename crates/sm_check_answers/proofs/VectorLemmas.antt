@@ -11,7 +11,7 @@ use Rattle.sm_instance.specs.Matching.{held, standing, IsAssignment, IsMatching,
 use Rattle.sm_instance.proofs.LoadLemmas.{load_before-suc_at}
 use Rattle.sm_instance.proofs.BreachLemmas.{load_mono}
 use Rattle.sm_instance.specs.Ranks.{rank_vector_of, IsBefore}
-use Rattle.sm_check_answers.specs.Vectors.{place_of_rank, places_of_ranks}
+use Rattle.sm_check_clauses.specs.Vectors.{place_of_rank, places_of_ranks}
 use Rattle.sm_check_answers.specs.Listing.{ArePlaced, IsRank}
 
 module _ (w : Written) (v : List ℕ) where

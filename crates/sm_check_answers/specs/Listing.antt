@@ -3,8 +3,8 @@ use Rattle.std.specs.Prelude.{◌≡◌, ℕ, ◌+◌, ◌<◌, ◌≤◌, ◌�
 use Rattle.sm_instance.specs.Written.{Written, row}
 use Rattle.sm_theory.specs.Listings.{end_of}
 use Rattle.sm_report.specs.Lines.{LineData}
-use Rattle.sm_check_answers.specs.Said.{vectors_in}
-use Rattle.sm_check_answers.specs.Vectors.{place_of_rank, places_of_ranks}
+use Rattle.sm_check_clauses.specs.Said.{vectors_in}
+use Rattle.sm_check_clauses.specs.Vectors.{place_of_rank, places_of_ranks}
 use Rattle.sm_check_answers.specs.Tried.{HasTrialRoom, IsTried}
 use Rattle.sm_check_answers.specs.declared.tried.Tried.{Tried}
 

@@ -6,9 +6,9 @@ use Rattle.sm_market.specs.Matching.{Places}
 use Rattle.sm_market.specs.Pairing.{IsPairingOf}
 use Rattle.sm_seats.specs.SeatMarket.{seat_market}
 use Rattle.sm_report.specs.Lines.{LineData}
-use Rattle.sm_check_answers.specs.Chain.{owners}
-use Rattle.sm_check_answers.specs.Said.{proposer_lists_in, reviewer_lists_in}
-use Rattle.sm_check_answers.specs.SeatMatchings.{first_of, last_of}
+use Rattle.sm_check_clauses.specs.Chain.{owners}
+use Rattle.sm_check_clauses.specs.Said.{proposer_lists_in, reviewer_lists_in}
+use Rattle.sm_check_clauses.specs.SeatMatchings.{first_of, last_of}
 use Rattle.sm_check_answers.specs.declared.seat_lists.SeatLists.{SeatLists}
 
 -- how often each of so many agents is an owner; from the second time on all count alike

@@ -8,12 +8,12 @@ use Rattle.sm_market.specs.Stable.{IsStable, IsProposersBest, IsReviewersBest}
 use Rattle.sm_seats.specs.SeatMarket.{seat_market}
 use Rattle.sm_seats.specs.Counted.{first_seats_of}
 use Rattle.sm_report.specs.Lines.{LineData}
-use Rattle.sm_check_answers.specs.declared.verdicts.Reason.{Reason}
-use Rattle.sm_check_answers.specs.declared.verdicts.Reason.TheVariants as reason
-use Rattle.sm_check_answers.specs.Said.{firsts_in, lasts_in, is_up_to_firsts, is_up_to_lasts}
-use Rattle.sm_check_answers.specs.SeatMatchings.{first_of, last_of, AreSeatPairs}
+use Rattle.sm_check_clauses.specs.declared.verdicts.Reason.{Reason}
+use Rattle.sm_check_clauses.specs.declared.verdicts.Reason.TheVariants as reason
+use Rattle.sm_check_clauses.specs.Said.{firsts_in, lasts_in, is_up_to_firsts, is_up_to_lasts}
+use Rattle.sm_check_clauses.specs.SeatMatchings.{first_of, last_of, AreSeatPairs}
 use Rattle.sm_check_answers.specs.ListsKept.{AreListsOf}
-use Rattle.sm_check_answers.specs.declared.seat_pairs.SeatPairs.{SeatPairs}
+use Rattle.sm_check_clauses.specs.declared.seat_pairs.SeatPairs.{SeatPairs}
 use Rattle.sm_check_answers.specs.declared.seat_lists.SeatLists.{SeatLists}
 use Rattle.sm_check_answers.specs.declared.reduced.Group.{Group}
 use Rattle.sm_check_answers.specs.declared.reduced.Group.TheVariants as group

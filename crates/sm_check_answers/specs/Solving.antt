@@ -4,8 +4,8 @@ use Rattle.sm_instance.specs.Written.{Written}
 use Rattle.sm_seats.specs.Seating.{Seating, seating_of}
 use Rattle.sm_pairs.specs.declared.holding.Holding.{Holding}
 use Rattle.sm_report.specs.Lines.{LineData}
-use Rattle.sm_check_answers.specs.PairsKept.{ArePairsHeld}
-use Rattle.sm_check_answers.specs.Said.{pairs_in}
+use Rattle.sm_check_clauses.specs.PairsKept.{ArePairsHeld}
+use Rattle.sm_check_clauses.specs.Said.{pairs_in}
 
 -- the pairs so far, beside the seats of the instance
 pub record IsSolveKept (w : Written) (s : Seating) (above : List LineData) (holding : Holding) : Type 0 where

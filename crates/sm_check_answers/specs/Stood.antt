@@ -3,7 +3,7 @@ use Rattle.std.specs.Prelude.{◌≡◌, ℕ, ◌<◌, ◌++◌, ◌∷◌, [], 
 use Rattle.std.specs.Option.{is_some}
 use Rattle.sm_instance.specs.Written.{Written}
 use Rattle.sm_pairs.specs.Held.{partner_in}
-use Rattle.sm_check_answers.specs.Pairs.{IsWanted}
+use Rattle.sm_check_clauses.specs.Pairs.{IsWanted}
 
 -- which proposers stand in pairs
 pub record AreStood (w : Written) (pairs : List (ℕ × ℕ)) (stood : List Bool) : Type 0 where

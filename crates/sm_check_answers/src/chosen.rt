@@ -5,14 +5,13 @@ ghost use Rattle.sm_instance.specs.Matching.{held};
 ghost use Rattle.sm_theory.specs.Choices.{chosen};
 ghost use Rattle.sm_pairs.specs.Chosen.{head_for};
 ghost use Rattle.sm_report.specs.Lines.{line_of};
-ghost use Rattle.sm_check_answers.specs.Verdicts.{AtLine, IsVerdict};
-ghost use Rattle.sm_check_answers.specs.Judges.{IsOwnLine};
-ghost use Rattle.sm_check_answers.specs.Judging.{answer, Clauses};
+ghost use Rattle.sm_check_clauses.specs.Verdicts.{AtLine, IsVerdict};
+ghost use Rattle.sm_check_clauses.specs.Judges.{IsOwnLine};
+ghost use Rattle.sm_check_clauses.specs.Judging.{answer, Clauses};
 
-use crate::judging::{Judge, judge_lines};
 use crate::pairs::{is_unblocked, joins};
-use crate::verdicts::{Reason, Verdict};
 use crate::wanted::Stood;
+use sm_check_clauses::{Judge, Reason, Verdict, judge_lines};
 use sm_instance::Instance;
 use sm_pairs::Holding;
 use sm_report::Line;
@@ -64,7 +63,7 @@ pub fn chosen_verdict(
 
 impl<'a> Judge for ChosenJudge<'a> {
     ghost use Rattle.sm_pairs.specs.Chosen.{head_for};
-    ghost use Rattle.sm_check_answers.specs.Judging.{answer};
+    ghost use Rattle.sm_check_clauses.specs.Judging.{answer};
     ghost use Rattle.sm_check_answers.specs.ChosenKept.{AreChosenKept};
 
     ghost subject = { λ j. answer j.instance.now (head_for j.choice) };

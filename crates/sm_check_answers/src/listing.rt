@@ -8,16 +8,15 @@ ghost use Rattle.sm_instance.specs.Ranks.{rank_vector_of, IsBefore, order_of};
 ghost use Rattle.sm_theory.specs.Listings.{IsBehind};
 ghost use Rattle.sm_report.specs.Heads.HeadData.{List as ListHead};
 ghost use Rattle.sm_report.specs.Lines.{line_of};
-ghost use Rattle.sm_check_answers.specs.Verdicts.{AtLine, Finds, IsVerdict};
-ghost use Rattle.sm_check_answers.specs.Vectors.{MoreHolds, VectorHolds, places_of_ranks};
+ghost use Rattle.sm_check_clauses.specs.Verdicts.{AtLine, Finds, IsVerdict};
+ghost use Rattle.sm_check_clauses.specs.Vectors.{MoreHolds, VectorHolds, places_of_ranks};
 ghost use Rattle.sm_check_answers.specs.Listing.{last_or};
 ghost use Rattle.sm_check_answers.specs.Tried.{HasTrialRoom, IsTried};
-ghost use Rattle.sm_check_answers.specs.Judges.{IsOwnLine};
-ghost use Rattle.sm_check_answers.specs.Judging.{answer, Clauses};
+ghost use Rattle.sm_check_clauses.specs.Judges.{IsOwnLine};
+ghost use Rattle.sm_check_clauses.specs.Judging.{answer, Clauses};
 
-use crate::judging::{Judge, judge_lines};
 use crate::tried::{Tried, stability_fault};
-use crate::verdicts::{Reason, Verdict};
+use sm_check_clauses::{Judge, Reason, Verdict, judge_lines};
 use sm_instance::{Assignment, Instance};
 use sm_report::Line;
 use std::alloc::{AllocError, Global};
@@ -86,7 +85,7 @@ pub fn list_verdict(
 impl<'a> Judge for ListJudge<'a> {
     ghost use Rattle.std.specs.Option.{option_map};
     ghost use Rattle.sm_report.specs.Heads.HeadData.{List as ListHead};
-    ghost use Rattle.sm_check_answers.specs.Judging.{answer};
+    ghost use Rattle.sm_check_clauses.specs.Judging.{answer};
     ghost use Rattle.sm_check_answers.specs.Listing.{AreVectorsKept};
 
     ghost subject = { λ j. answer j.instance.now (ListHead (option_map (λ b. b.now) j.after)

@@ -7,21 +7,19 @@ ghost use Rattle.sm_seats.specs.Seating.{seating_of};
 ghost use Rattle.sm_seats.specs.Counted.{first_seats_of};
 ghost use Rattle.sm_report.specs.Heads.{HeadData};
 ghost use Rattle.sm_report.specs.Lines.{LineData, line_of};
-ghost use Rattle.sm_check_answers.specs.Chain.{ReducedHold};
-ghost use Rattle.sm_check_answers.specs.Judges.{IsKnown, IsOwnLine};
-ghost use Rattle.sm_check_answers.specs.Judging.{answer, Clauses};
+ghost use Rattle.sm_check_clauses.specs.Chain.{ReducedHold};
+ghost use Rattle.sm_check_clauses.specs.Judges.{IsKnown, IsOwnLine};
+ghost use Rattle.sm_check_clauses.specs.Judging.{answer, Clauses};
 ghost use Rattle.sm_check_answers.specs.ReducedKept.{IsTriedFirst, IsReducedOf, IsReducedKept};
 ghost use Rattle.sm_check_answers.specs.declared.seat_lists.SeatLists.{SeatLists};
 ghost use Rattle.sm_check_answers.specs.declared.reduced.Group.TheVariants.{Lists};
-ghost use Rattle.sm_check_answers.specs.Said.{is_up_to_lasts};
-ghost use Rattle.sm_check_answers.specs.SeatMatchings.{seat_places_in, AreSeatPairs};
-ghost use Rattle.sm_check_answers.specs.Verdicts.{AtLine, Finds, IsVerdict};
-ghost use Rattle.sm_check_answers.specs.Walking.{FindsOrKeeps};
+ghost use Rattle.sm_check_clauses.specs.Said.{is_up_to_lasts};
+ghost use Rattle.sm_check_clauses.specs.SeatMatchings.{seat_places_in, AreSeatPairs};
+ghost use Rattle.sm_check_clauses.specs.Verdicts.{AtLine, Finds, IsVerdict};
+ghost use Rattle.sm_check_clauses.specs.Walking.{FindsOrKeeps};
 
-use crate::judging::{Judge, judge_lines};
 use crate::seat_lists::SeatLists;
-use crate::seat_pairs::{SeatPairs, is_unblocked};
-use crate::verdicts::{Reason, Verdict};
+use sm_check_clauses::{Judge, Reason, SeatPairs, Verdict, is_unblocked, judge_lines};
 use sm_check_decide::{is_proposers_best, is_reviewers_best};
 use sm_check_forms::seat_number;
 use sm_instance::Instance;
@@ -90,7 +88,7 @@ pub fn reduced_verdict(
 
 impl<'a> Judge for ReducedJudge<'a> {
     ghost use Rattle.sm_report.specs.Heads.{HeadData};
-    ghost use Rattle.sm_check_answers.specs.Judging.{answer};
+    ghost use Rattle.sm_check_clauses.specs.Judging.{answer};
     ghost use Rattle.sm_check_answers.specs.ReducedKept.{IsReducedKept};
 
     ghost subject = { λ j. answer j.instance.now HeadData.Reduced };

@@ -5,20 +5,19 @@ ghost use Rattle.sm_instance.specs.declared.inputs.Input.TheVariants.{Two};
 ghost use Rattle.sm_pairs.specs.Holding.{IsHolding};
 ghost use Rattle.sm_report.specs.Lines.{LineData, line_of};
 ghost use Rattle.sm_report.specs.Sound.{IsLineOf};
-ghost use Rattle.sm_check_answers.specs.Verdicts.{AtLine, Finds, IsVerdict};
-ghost use Rattle.sm_check_answers.specs.Said.{pairs_in, regret_in};
-ghost use Rattle.sm_check_answers.specs.Vectors.{RegretHolds};
+ghost use Rattle.sm_check_clauses.specs.Verdicts.{AtLine, Finds, IsVerdict};
+ghost use Rattle.sm_check_clauses.specs.Said.{pairs_in, regret_in};
+ghost use Rattle.sm_check_clauses.specs.Vectors.{RegretHolds};
 ghost use Rattle.sm_report.specs.Heads.HeadData.{Regret};
-ghost use Rattle.sm_check_answers.specs.Judges.{IsOwnLine};
-ghost use Rattle.sm_check_answers.specs.Judging.{answer, Clauses};
+ghost use Rattle.sm_check_clauses.specs.Judges.{IsOwnLine};
+ghost use Rattle.sm_check_clauses.specs.Judging.{answer, Clauses};
 ghost use Rattle.sm_check_answers.specs.Regrets.{EndOfRegret};
-ghost use Rattle.sm_check_answers.specs.Walking.{FindsOrKeeps};
+ghost use Rattle.sm_check_clauses.specs.Walking.{FindsOrKeeps};
 ghost use Rattle.sm_instance.specs.Matching.{IsMatching};
-ghost use Rattle.sm_check_answers.specs.PairsKept.{ArePairsHeld};
+ghost use Rattle.sm_check_clauses.specs.PairsKept.{ArePairsHeld};
 
-use crate::judging::{Judge, judge_lines};
 use crate::pairs::joins;
-use crate::verdicts::{Reason, Verdict};
+use sm_check_clauses::{Judge, Reason, Verdict, judge_lines};
 use sm_instance::{Assignment, Instance};
 use sm_pairs::Holding;
 use sm_report::Line;
@@ -60,7 +59,7 @@ pub fn regret_verdict(
 
 impl<'a> Judge for RegretJudge<'a> {
     ghost use Rattle.sm_report.specs.Heads.HeadData.{Regret};
-    ghost use Rattle.sm_check_answers.specs.Judging.{answer};
+    ghost use Rattle.sm_check_clauses.specs.Judging.{answer};
     ghost use Rattle.sm_check_answers.specs.Regrets.{AreRegretsKept};
 
     ghost subject = { λ j. answer j.instance.now Regret };

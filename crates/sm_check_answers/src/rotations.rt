@@ -7,19 +7,16 @@ ghost use Rattle.sm_seats.specs.Seating.{seating_of};
 ghost use Rattle.sm_seats.specs.Counted.{first_seats_of};
 ghost use Rattle.sm_report.specs.Heads.{HeadData};
 ghost use Rattle.sm_report.specs.Lines.{LineData, line_of};
-ghost use Rattle.sm_check_answers.specs.Judges.{IsKnown, IsOwnLine};
-ghost use Rattle.sm_check_answers.specs.Judging.{answer, Clauses};
-ghost use Rattle.sm_check_answers.specs.Verdicts.{AtLine, IsVerdict};
-ghost use Rattle.sm_check_answers.specs.Chain.{RotationsHold};
-ghost use Rattle.sm_check_answers.specs.Said.{rotations_in, is_up_to_firsts};
-ghost use Rattle.sm_check_answers.specs.Walking.{FindsOrKeeps};
-ghost use Rattle.sm_check_answers.specs.Walks.{AreChainMoves, AreFirstsKept, IsChainAt, IsChainKept};
+ghost use Rattle.sm_check_clauses.specs.Judges.{IsKnown, IsOwnLine};
+ghost use Rattle.sm_check_clauses.specs.Judging.{answer, Clauses};
+ghost use Rattle.sm_check_clauses.specs.Verdicts.{AtLine, IsVerdict};
+ghost use Rattle.sm_check_clauses.specs.Chain.{RotationsHold};
+ghost use Rattle.sm_check_clauses.specs.Said.{rotations_in, is_up_to_firsts};
+ghost use Rattle.sm_check_clauses.specs.Walking.{FindsOrKeeps};
+ghost use Rattle.sm_check_clauses.specs.Walks.{AreChainMoves, AreFirstsKept, IsChainAt, IsChainKept};
 ghost use Rattle.sm_check_net.specs.Moves.{moves_in};
 
-use crate::chain_walk::ChainWalk;
-use crate::judging::{Judge, judge_lines};
-use crate::seat_pairs::{SeatPairs, is_unblocked};
-use crate::verdicts::{Reason, Verdict};
+use sm_check_clauses::{ChainWalk, Judge, Reason, SeatPairs, Verdict, is_unblocked, judge_lines};
 use sm_check_decide::is_proposers_best;
 use sm_check_forms::seat_number;
 use sm_check_net::Move;
@@ -75,8 +72,8 @@ pub fn rotations_verdict(
 
 impl<'a> Judge for RotationsJudge<'a> {
     ghost use Rattle.sm_report.specs.Heads.{HeadData};
-    ghost use Rattle.sm_check_answers.specs.Judging.{answer};
-    ghost use Rattle.sm_check_answers.specs.Walks.{IsChainKept};
+    ghost use Rattle.sm_check_clauses.specs.Judging.{answer};
+    ghost use Rattle.sm_check_clauses.specs.Walks.{IsChainKept};
 
     ghost subject = { λ j. answer j.instance.now HeadData.Rotations };
 

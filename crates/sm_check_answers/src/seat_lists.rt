@@ -6,13 +6,13 @@ ghost use Rattle.sm_seats.specs.SeatMarket.{seat_market};
 ghost use Rattle.sm_seats.specs.Counted.{first_seats_of};
 ghost use Rattle.sm_report.specs.Heads.{HeadData};
 ghost use Rattle.sm_report.specs.Lines.{LineData, line_of};
-ghost use Rattle.sm_check_answers.specs.Chain.{HasOneEach, ListsHold};
-ghost use Rattle.sm_check_answers.specs.Judges.{IsOwnLine};
-ghost use Rattle.sm_check_answers.specs.Judging.{answer};
+ghost use Rattle.sm_check_clauses.specs.Chain.{HasOneEach, ListsHold};
+ghost use Rattle.sm_check_clauses.specs.Judges.{IsOwnLine};
+ghost use Rattle.sm_check_clauses.specs.Judging.{answer};
 ghost use Rattle.sm_check_answers.specs.ListsKept.{AreTimes, AreLists, AreListsOf, AreListsBehind};
-ghost use Rattle.sm_check_answers.specs.Walking.{FindsOrKeeps};
+ghost use Rattle.sm_check_clauses.specs.Walking.{FindsOrKeeps};
 
-use crate::verdicts::Reason;
+use sm_check_clauses::Reason;
 use sm_check_decide::{is_reduced_proposer_list, is_reduced_reviewer_list};
 use sm_check_forms::{seat_number, seat_numbers};
 use sm_instance::Instance;

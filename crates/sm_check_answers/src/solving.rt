@@ -9,17 +9,16 @@ ghost use Rattle.sm_instance.specs.declared.inputs.Input.TheVariants.{Two};
 ghost use Rattle.sm_report.specs.Heads.{HeadData};
 ghost use Rattle.sm_report.specs.Lines.{LineData, line_of};
 ghost use Rattle.sm_report.specs.Sound.{IsLineOf};
-ghost use Rattle.sm_check_answers.specs.Judges.{IsOwnLine};
-ghost use Rattle.sm_check_answers.specs.Said.{pairs_in};
-ghost use Rattle.sm_check_answers.specs.Walking.{FindsOrKeeps};
-ghost use Rattle.sm_check_answers.specs.Judging.{answer, Clauses};
-ghost use Rattle.sm_check_answers.specs.Pairs.{SolveHolds};
-ghost use Rattle.sm_check_answers.specs.PairsKept.{ArePairsHeld};
-ghost use Rattle.sm_check_answers.specs.Verdicts.{AtLine, Finds, IsVerdict};
+ghost use Rattle.sm_check_clauses.specs.Judges.{IsOwnLine};
+ghost use Rattle.sm_check_clauses.specs.Said.{pairs_in};
+ghost use Rattle.sm_check_clauses.specs.Walking.{FindsOrKeeps};
+ghost use Rattle.sm_check_clauses.specs.Judging.{answer, Clauses};
+ghost use Rattle.sm_check_clauses.specs.Pairs.{SolveHolds};
+ghost use Rattle.sm_check_clauses.specs.PairsKept.{ArePairsHeld};
+ghost use Rattle.sm_check_clauses.specs.Verdicts.{AtLine, Finds, IsVerdict};
 
-use crate::judging::{Judge, judge_lines};
 use crate::pairs::joins;
-use crate::verdicts::{Reason, Verdict};
+use sm_check_clauses::{Judge, Reason, Verdict, judge_lines};
 use sm_check_decide::{is_proposers_best, is_reviewers_best};
 use sm_instance::{Assignment, Instance, Side};
 use sm_pairs::Holding;
@@ -71,7 +70,7 @@ pub fn solve_verdict(
 impl<'a> Judge for SolveJudge<'a> {
     ghost use Rattle.std.specs.Prelude.{Some};
     ghost use Rattle.sm_report.specs.Heads.{HeadData};
-    ghost use Rattle.sm_check_answers.specs.Judging.{answer};
+    ghost use Rattle.sm_check_clauses.specs.Judging.{answer};
     ghost use Rattle.sm_check_answers.specs.Solving.{IsSolveKept};
 
     ghost subject = { λ j. answer j.instance.now (HeadData.Solve (Some j.side)) };

@@ -5,10 +5,10 @@ ghost use Rattle.sm_instance.specs.Written.{row, entry, capacity_of, IsAcceptabl
 ghost use Rattle.sm_instance.specs.Matching.{held, standing, load, IsAssignment, IsMatching};
 ghost use Rattle.sm_instance.specs.Stable.{Blocks, HasWorse, IsStable, IsGainLimit};
 ghost use Rattle.sm_instance.specs.Sound.{IsInstance};
-ghost use Rattle.sm_check_answers.specs.Verdicts.{Finds};
+ghost use Rattle.sm_check_clauses.specs.Verdicts.{Finds};
 ghost use Rattle.sm_check_answers.specs.Tried.{AreLimits, is_touched, IsTouchedAt, AreTouched, IsUnblockedFrom, BlocksNoneFrom, StableHolds, HasTrialRoom, IsTried};
 
-use crate::verdicts::Reason;
+use sm_check_clauses::Reason;
 use sm_instance::{Assignment, Instance};
 
 /// The last stable matching and the gain limit of each reviewer in it; and room for the next matching, and for which reviewers

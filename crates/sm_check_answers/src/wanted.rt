@@ -2,7 +2,7 @@
 
 ghost use Rattle.std.specs.Prelude.{◌≡◌, ◌↔◌, ℕ, ◌<◌, [], List, length, Option, IsTrue, IfOk};
 ghost use Rattle.sm_instance.specs.Matching.{IsAssignment};
-ghost use Rattle.sm_check_answers.specs.Pairs.{AreAllThere};
+ghost use Rattle.sm_check_clauses.specs.Pairs.{AreAllThere};
 ghost use Rattle.sm_check_answers.specs.Stood.{Stands, AreStood};
 
 use sm_instance::Instance;

@@ -1,5 +1,5 @@
 -- A search goes on once a rotation is eliminated, and passes who has no successor left.
-use Rattle.std.proofs.Common.{ℕ, ◌<◌, ◌-◌, ◌^◌, List, arith}
+use Rattle.std.proofs.Common.{ℕ, ◌<◌, List, arith}
 use Rattle.sm_lists.proofs.RowLemmas.{row_fits}
 use Rattle.sm_market.specs.Limits.{IsWithinLimits}
 use Rattle.sm_market.specs.Lists.{Lists, IsMarket, entry}

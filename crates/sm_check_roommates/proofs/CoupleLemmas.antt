@@ -12,13 +12,13 @@ use Rattle.sm_instance.specs.Written.{AgentData, lists_of}
 use Rattle.sm_theory.specs.Rooms.{IsAcceptable, IsRoomMatching, IsRoomStable, mate_of}
 use Rattle.sm_pairs.specs.Held.{partner_in}
 use Rattle.sm_report.specs.Lines.{LineData}
-use Rattle.sm_check_answers.specs.declared.verdicts.Reason.{Reason}
-use Rattle.sm_check_answers.specs.declared.verdicts.Reason.TheVariants as reason
-use Rattle.sm_check_answers.specs.Verdicts.{IsFirstThere, Finds, number_of_reason}
-use Rattle.sm_check_answers.specs.Said.{pair_in, pairs_in}
-use Rattle.sm_check_answers.specs.Rooming.{persons_of, both_ways, mates_in, IsFreeCouple, CouplesHold}
+use Rattle.sm_check_clauses.specs.declared.verdicts.Reason.{Reason}
+use Rattle.sm_check_clauses.specs.declared.verdicts.Reason.TheVariants as reason
+use Rattle.sm_check_clauses.specs.Verdicts.{IsFirstThere, Finds, number_of_reason}
+use Rattle.sm_check_clauses.specs.Said.{pair_in, pairs_in}
+use Rattle.sm_check_clauses.specs.Rooming.{persons_of, both_ways, mates_in, IsFreeCouple, CouplesHold}
 use Rattle.sm_check_roommates.specs.CouplesKept.{AreCouplesHeld, AreCouplesKept, HasCoupled}
-use Rattle.sm_check_answers.specs.Walking.{FindsOrKeeps}
+use Rattle.sm_check_clauses.specs.Walking.{FindsOrKeeps}
 use Rattle.sm_check_roommates.proofs.PersonLemmas.{among_of, of_among}
 use Rattle.sm_check_roommates.specs.PartiesKept.{is_among}
 

@@ -17,11 +17,11 @@ use Rattle.sm_instance.specs.Written.{AgentData, lists_of}
 use Rattle.sm_theory.specs.Partitions.{IsStablePartition}
 use Rattle.sm_report.specs.declared.lines.Line.{Line}
 use Rattle.sm_report.specs.Lines.{LineData, line_of}
-use Rattle.sm_check_answers.specs.declared.verdicts.Reason.{Reason}
-use Rattle.sm_check_answers.specs.declared.verdicts.Reason.TheVariants as reason
-use Rattle.sm_check_answers.specs.Verdicts.{IsFirstThere, number_of_reason}
-use Rattle.sm_check_answers.specs.Said.{party_in, parties_in}
-use Rattle.sm_check_answers.specs.Rooming.{members_of, next_in_party, next_of, nexts_of, AreNew, IsWholePartition, HasOddParty, PartiesHold}
+use Rattle.sm_check_clauses.specs.declared.verdicts.Reason.{Reason}
+use Rattle.sm_check_clauses.specs.declared.verdicts.Reason.TheVariants as reason
+use Rattle.sm_check_clauses.specs.Verdicts.{IsFirstThere, number_of_reason}
+use Rattle.sm_check_clauses.specs.Said.{party_in, parties_in}
+use Rattle.sm_check_clauses.specs.Rooming.{members_of, next_in_party, next_of, nexts_of, AreNew, IsWholePartition, HasOddParty, PartiesHold}
 use Rattle.sm_check_roommates.specs.PartiesKept.{is_among, is_met, AreMet, HasRepeatedPerson, follower, AreLinked, IsOdd, ArePartiesHeld, ArePartiesKept, HasParted}
 use Rattle.sm_check_roommates.proofs.PersonLemmas.{among_of, of_among}
 

@@ -4,8 +4,8 @@ use Rattle.sm_instance.specs.Written.{AgentData, lists_of}
 use Rattle.sm_theory.specs.Rooms.{IsRoomMatching, mate_of}
 use Rattle.sm_report.specs.Lines.{LineData}
 use Rattle.sm_pairs.specs.Held.{partner_in}
-use Rattle.sm_check_answers.specs.Said.{pair_in, pairs_in}
-use Rattle.sm_check_answers.specs.Rooming.{both_ways, IsFreeCouple}
+use Rattle.sm_check_clauses.specs.Said.{pair_in, pairs_in}
+use Rattle.sm_check_clauses.specs.Rooming.{both_ways, IsFreeCouple}
 
 -- the persons of a line's couple are there
 abbrev pub AreThere : ℕ → LineData → Type 0

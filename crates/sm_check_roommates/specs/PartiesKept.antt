@@ -3,8 +3,8 @@ use Rattle.std.specs.Prelude.{◌≡◌, ◌≢◌, ℕ, ◌+◌, ◌*◌, ◌<�
 use Rattle.std.specs.List.{list_any}
 use Rattle.sm_instance.specs.Written.{AgentData, lists_of}
 use Rattle.sm_report.specs.Lines.{LineData}
-use Rattle.sm_check_answers.specs.Said.{parties_in}
-use Rattle.sm_check_answers.specs.Rooming.{members_of, next_of, AreNew, HasOddParty}
+use Rattle.sm_check_clauses.specs.Said.{parties_in}
+use Rattle.sm_check_clauses.specs.Rooming.{members_of, next_of, AreNew, HasOddParty}
 
 -- whether a person stands among some, and whether it was met
 abbrev pub is_among : ℕ → List ℕ → Bool

@@ -4,15 +4,15 @@ ghost use Rattle.std.specs.Prelude.{◌≡◌, ℕ, ◌+◌, ◌<◌, ◌^◌, �
 ghost use Rattle.sm_instance.specs.Written.{AgentData, lists_of};
 ghost use Rattle.sm_theory.specs.Rooms.{IsRoomMatching};
 ghost use Rattle.sm_report.specs.Lines.{LineData, line_of};
-ghost use Rattle.sm_check_answers.specs.Verdicts.{AtLine, Finds, IsVerdict};
-ghost use Rattle.sm_check_answers.specs.Said.{pairs_in};
-ghost use Rattle.sm_check_answers.specs.Rooming.{CouplesHold};
-ghost use Rattle.sm_check_answers.specs.Judging.{couples, Clauses};
-ghost use Rattle.sm_check_answers.specs.Judges.{IsOwnLine};
+ghost use Rattle.sm_check_clauses.specs.Verdicts.{AtLine, Finds, IsVerdict};
+ghost use Rattle.sm_check_clauses.specs.Said.{pairs_in};
+ghost use Rattle.sm_check_clauses.specs.Rooming.{CouplesHold};
+ghost use Rattle.sm_check_clauses.specs.Judging.{couples, Clauses};
+ghost use Rattle.sm_check_clauses.specs.Judges.{IsOwnLine};
 ghost use Rattle.sm_check_roommates.specs.CouplesKept.{AreThere, AreCouplesHeld, Couples};
 
 use crate::persons::room_lists;
-use sm_check_answers::{Judge, Reason, Verdict, judge_lines};
+use sm_check_clauses::{Judge, Reason, Verdict, judge_lines};
 use sm_check_decide::{RoomLists, is_room_stable};
 use sm_instance::Persons;
 use sm_report::Line;
@@ -61,7 +61,7 @@ fn no_mates(alloc: Global, rooms: &RoomLists) -> Result<Vec<Option<u32>>, AllocE
 }
 
 impl<'a> Judge for CouplesJudge<'a> {
-    ghost use Rattle.sm_check_answers.specs.Judging.{couples};
+    ghost use Rattle.sm_check_clauses.specs.Judging.{couples};
     ghost use Rattle.sm_check_roommates.specs.CouplesKept.{AreCouplesKept};
 
     ghost subject = { λ j. couples j.persons.now };

@@ -3,14 +3,14 @@
 ghost use Rattle.std.specs.Prelude.{◌≡◌, ◌≢◌, ◌⊎◌, ℕ, ◌+◌, ◌<◌, ◌^◌, ◌↔◌, [], List, All, length, map, slice_index, IsTrue, IfOk, EachIndex, false, true};
 ghost use Rattle.sm_instance.specs.Written.{AgentData, lists_of};
 ghost use Rattle.sm_report.specs.Lines.{LineData, line_of};
-ghost use Rattle.sm_check_answers.specs.Verdicts.{AtLine, Finds, IsVerdict};
-ghost use Rattle.sm_check_answers.specs.Judging.{parties, Clauses};
-ghost use Rattle.sm_check_answers.specs.Judges.{IsOwnLine};
-ghost use Rattle.sm_check_answers.specs.Rooming.{PartiesHold};
+ghost use Rattle.sm_check_clauses.specs.Verdicts.{AtLine, Finds, IsVerdict};
+ghost use Rattle.sm_check_clauses.specs.Judging.{parties, Clauses};
+ghost use Rattle.sm_check_clauses.specs.Judges.{IsOwnLine};
+ghost use Rattle.sm_check_clauses.specs.Rooming.{PartiesHold};
 ghost use Rattle.sm_check_roommates.specs.PartiesKept.{is_met, MeetsParty, AreLinked, IsOdd, ArePartiesHeld, KeepsParty};
 
 use crate::persons::room_lists;
-use sm_check_answers::{Judge, Reason, Verdict, judge_lines};
+use sm_check_clauses::{Judge, Reason, Verdict, judge_lines};
 use sm_check_decide::{RoomLists, is_stable_partition};
 use sm_instance::Persons;
 use sm_market::next_in;
@@ -61,7 +61,7 @@ pub fn parties_verdict(
 }
 
 impl<'a> Judge for PartiesJudge<'a> {
-    ghost use Rattle.sm_check_answers.specs.Judging.{parties};
+    ghost use Rattle.sm_check_clauses.specs.Judging.{parties};
     ghost use Rattle.sm_check_roommates.specs.PartiesKept.{ArePartiesKept};
 
     ghost subject = { λ j. parties j.persons.now };

@@ -14,9 +14,9 @@ use Rattle.sm_seats.specs.SeatMarket.{seat_market}
 use Rattle.sm_report.specs.Lines.{LineData}
 use Rattle.sm_check_forms.specs.Layouts.{is_empty}
 use Rattle.sm_check_forms.proofs.TakingLemmas.{and_left, and_right}
-use Rattle.sm_check_answers.specs.Said.{rotations_in, flow_in, second_flow_in, taken_in, value_in, second_value_in, pair_in, pairs_in, is_up_to_rotations}
-use Rattle.sm_check_answers.specs.SeatMatchings.{first_of}
-use Rattle.sm_check_answers.specs.Flows.{size_in, net_in, on_nodes, second_level}
+use Rattle.sm_check_clauses.specs.Said.{rotations_in, flow_in, second_flow_in, taken_in, value_in, second_value_in, pair_in, pairs_in, is_up_to_rotations}
+use Rattle.sm_check_clauses.specs.SeatMatchings.{first_of}
+use Rattle.sm_check_clauses.specs.Flows.{size_in, net_in, on_nodes, second_level}
 use Rattle.sm_check_answers.specs.Stood.{AreStood}
 use Rattle.sm_check_weight.specs.declared.claims.Claim.{Claim}
 use Rattle.sm_check_weight.specs.declared.said.SaidFlow.{SaidFlow}

@@ -8,13 +8,13 @@ use Rattle.sm_instance.specs.declared.kinds.Measure.TheVariants.{Ranks, Given}
 use Rattle.sm_theory.specs.FlowLines.{IsConserved}
 use Rattle.sm_placed.specs.Levels.{has_two_levels}
 use Rattle.sm_report.specs.Lines.{LineData}
-use Rattle.sm_check_answers.specs.declared.verdicts.Reason.{Reason}
-use Rattle.sm_check_answers.specs.declared.verdicts.Reason.TheVariants as reason
-use Rattle.sm_check_answers.specs.Flows.{Level, size_in, net_in, on_nodes, first_level, second_level, last_level, LevelHolds, TakenHolds, taken_set, taken_matching, IsAllowedSet}
-use Rattle.sm_check_answers.specs.Pairs.{WantedHold}
-use Rattle.sm_check_answers.specs.Said.{flow_in, second_flow_in, value_in, second_value_in, pairs_in, first_said}
-use Rattle.sm_check_answers.specs.Verdicts.{Finds, IsFirstThere, number_of_reason}
-use Rattle.sm_check_answers.proofs.AnswerLemmas.{found_by}
+use Rattle.sm_check_clauses.specs.declared.verdicts.Reason.{Reason}
+use Rattle.sm_check_clauses.specs.declared.verdicts.Reason.TheVariants as reason
+use Rattle.sm_check_clauses.specs.Flows.{Level, size_in, net_in, on_nodes, first_level, second_level, last_level, LevelHolds, TakenHolds, taken_set, taken_matching, IsAllowedSet}
+use Rattle.sm_check_clauses.specs.Pairs.{WantedHold}
+use Rattle.sm_check_clauses.specs.Said.{flow_in, second_flow_in, value_in, second_value_in, pairs_in, first_said}
+use Rattle.sm_check_clauses.specs.Verdicts.{Finds, IsFirstThere, number_of_reason}
+use Rattle.sm_check_clauses.proofs.AnswerLemmas.{found_by}
 use Rattle.sm_check_weight.specs.ClaimClauses.{ValueHolds, CutHolds, TotalHolds, SecondTotalHolds, EndHolds}
 use Rattle.sm_check_weight.specs.FlowClauses.{NextHolds, flow_line}
 use Rattle.sm_check_weight.specs.Kept.{ClaimHolds, flow_on}

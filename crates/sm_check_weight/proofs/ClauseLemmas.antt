@@ -3,11 +3,11 @@ use Rattle.std.proofs.Common.{◌<◌, arith, List, Option, None, Some}
 use Rattle.sm_instance.specs.Written.{Written}
 use Rattle.sm_instance.specs.declared.kinds.Measure.{Measure}
 use Rattle.sm_report.specs.Lines.{LineData}
-use Rattle.sm_check_answers.specs.declared.verdicts.Reason.{Reason}
-use Rattle.sm_check_answers.specs.declared.verdicts.Reason.TheVariants as reason
-use Rattle.sm_check_answers.specs.Chain.{RotationsHold}
-use Rattle.sm_check_answers.specs.Flows.{WeightHolds}
-use Rattle.sm_check_answers.specs.Verdicts.{Finds, IsFirstThere, number_of_reason}
+use Rattle.sm_check_clauses.specs.declared.verdicts.Reason.{Reason}
+use Rattle.sm_check_clauses.specs.declared.verdicts.Reason.TheVariants as reason
+use Rattle.sm_check_clauses.specs.Chain.{RotationsHold}
+use Rattle.sm_check_clauses.specs.Flows.{WeightHolds}
+use Rattle.sm_check_clauses.specs.Verdicts.{Finds, IsFirstThere, number_of_reason}
 use Rattle.sm_check_weight.specs.Kept.{ClaimHolds}
 
 module _ (w : Written) (by : Measure) (above : List LineData) (x : LineData) where

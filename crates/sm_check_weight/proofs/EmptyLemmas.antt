@@ -11,10 +11,10 @@ use Rattle.sm_theory.specs.ClosedSets.{IsClosed}
 use Rattle.sm_check_net.specs.CheckedNets.{NetParts, net_of_parts, NeedsAreOf}
 use Rattle.sm_seats.specs.SeatMarket.{seat_market}
 use Rattle.sm_report.specs.Lines.{LineData}
-use Rattle.sm_check_answers.specs.declared.chain_walk.ChainWalk.{ChainWalk}
-use Rattle.sm_check_answers.specs.Said.{rotations_in}
-use Rattle.sm_check_answers.specs.SeatMatchings.{first_of}
-use Rattle.sm_check_answers.specs.Flows.{set_of_numbers, matching_of_set, IsAllowedSet}
+use Rattle.sm_check_clauses.specs.declared.chain_walk.ChainWalk.{ChainWalk}
+use Rattle.sm_check_clauses.specs.Said.{rotations_in}
+use Rattle.sm_check_clauses.specs.SeatMatchings.{first_of}
+use Rattle.sm_check_clauses.specs.Flows.{set_of_numbers, matching_of_set, IsAllowedSet}
 use Rattle.sm_check_weight.specs.Kept.{IsWholeWalk, IsSetOf}
 use Rattle.sm_check_weight.specs.declared.taken.Taken.{Taken}
 use Rattle.sm_check_weight.proofs.SetLemmas.{length-set_of, none_taken}

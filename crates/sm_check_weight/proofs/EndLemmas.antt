@@ -5,10 +5,10 @@ use Rattle.sm_theory.specs.Net.{Net}
 use Rattle.sm_theory.specs.FlowLines.{amount_on}
 use Rattle.sm_theory.specs.Flows.{IsResidualReach}
 use Rattle.sm_theory.specs.declared.flow_lines.FlowLine.{FlowLine}
-use Rattle.sm_check_answers.specs.declared.verdicts.Reason.{Reason}
-use Rattle.sm_check_answers.specs.declared.verdicts.Reason.TheVariants as reason
-use Rattle.sm_check_answers.specs.Pairs.{AreAllThere}
-use Rattle.sm_check_answers.specs.Verdicts.{IsFirstThere, number_of_reason}
+use Rattle.sm_check_clauses.specs.declared.verdicts.Reason.{Reason}
+use Rattle.sm_check_clauses.specs.declared.verdicts.Reason.TheVariants as reason
+use Rattle.sm_check_clauses.specs.Pairs.{AreAllThere}
+use Rattle.sm_check_clauses.specs.Verdicts.{IsFirstThere, number_of_reason}
 use Rattle.sm_check_weight.specs.ClaimClauses.{EndHolds}
 
 -- what is asked without a net and with one, by what holds there, and by what doesn't

@@ -10,8 +10,8 @@ use Rattle.sm_theory.specs.Net.{Net}
 use Rattle.sm_theory.specs.FlowLines.{AreOnNodes, line_at}
 use Rattle.sm_theory.specs.declared.flow_lines.FlowLine.{FlowLine}
 use Rattle.sm_report.specs.Lines.{LineData}
-use Rattle.sm_check_answers.specs.Flows.{on_nodes}
-use Rattle.sm_check_answers.proofs.AnswerLemmas.{first_more, said_same, said_one}
+use Rattle.sm_check_clauses.specs.Flows.{on_nodes}
+use Rattle.sm_check_clauses.proofs.AnswerLemmas.{first_more, said_same, said_one}
 use Rattle.sm_check_weight.specs.declared.flow_lines.Flow.{Flow}
 use Rattle.sm_check_weight.specs.declared.said.SaidFlow.{SaidFlow}
 use Rattle.sm_check_weight.specs.Kept.{IsFlowOf, IsFlowOn, IsNextLine, IsSaidOf}

@@ -10,18 +10,18 @@ use Rattle.sm_seats.specs.Seating.{seating_of}
 use Rattle.sm_seats.specs.Correspondence.{weights_of}
 use Rattle.sm_report.specs.Lines.{LineData, line_of}
 use Rattle.sm_report.specs.declared.lines.Line.{Line}
-use Rattle.sm_check_answers.specs.declared.verdicts.Reason.{Reason}
-use Rattle.sm_check_answers.specs.declared.verdicts.Reason.TheVariants as reason
-use Rattle.sm_check_answers.specs.Chain.{last_rotation}
+use Rattle.sm_check_clauses.specs.declared.verdicts.Reason.{Reason}
+use Rattle.sm_check_clauses.specs.declared.verdicts.Reason.TheVariants as reason
+use Rattle.sm_check_clauses.specs.Chain.{last_rotation}
 use Rattle.sm_market.specs.Lists.{Lists}
 use Rattle.sm_check_net.specs.declared.moves.Move.{Move}
 use Rattle.sm_check_net.specs.Moves.{AreMovesByRotation}
-use Rattle.sm_check_answers.specs.Walks.{AreChainMoves}
-use Rattle.sm_check_answers.proofs.AnswerLemmas.{said_same}
-use Rattle.sm_check_answers.specs.Said.{rotation_in, rotations_in, is_up_to_rotations}
-use Rattle.sm_check_answers.specs.Flows.{first_level, second_level, LevelHolds}
+use Rattle.sm_check_clauses.specs.Walks.{AreChainMoves}
+use Rattle.sm_check_clauses.proofs.AnswerLemmas.{said_same}
+use Rattle.sm_check_clauses.specs.Said.{rotation_in, rotations_in, is_up_to_rotations}
+use Rattle.sm_check_clauses.specs.Flows.{first_level, second_level, LevelHolds}
 use Rattle.sm_placed.specs.Levels.{has_two_levels, seconds_by}
-use Rattle.sm_check_answers.specs.Verdicts.{IsFirstThere}
+use Rattle.sm_check_clauses.specs.Verdicts.{IsFirstThere}
 use Rattle.sm_check_weight.specs.Kept.{ClaimHolds}
 use Rattle.sm_check_weight.proofs.ClauseLemmas.{early}
 use Rattle.sm_check_weight.proofs.LevelLemmas.{IsSilent, level_silent, plain_holds, second_of_last}

@@ -8,15 +8,15 @@ use Rattle.sm_seats.specs.SeatMarket.{seat_market}
 use Rattle.sm_report.specs.Heads.{HeadData}
 use Rattle.sm_report.specs.Lines.{LineData}
 use Rattle.sm_check_forms.proofs.TakingLemmas.{and_left, and_right}
-use Rattle.sm_check_answers.specs.Judges.{IsOwnLine}
-use Rattle.sm_check_answers.specs.Judging.{Subject, answer}
-use Rattle.sm_check_answers.specs.Said.{first_in, rotation_in, rotations_in, all_needs_in, is_up_to_firsts, is_up_to_rotations}
-use Rattle.sm_check_answers.specs.SeatMatchings.{first_of, seat_places_in}
-use Rattle.sm_check_answers.specs.Walks.{IsChainWalk, IsWalkOf, IsChainAt}
-use Rattle.sm_check_answers.specs.declared.seat_pairs.SeatPairs.{SeatPairs}
-use Rattle.sm_check_answers.specs.declared.chain_walk.ChainWalk.{ChainWalk}
-use Rattle.sm_check_answers.proofs.AnswerLemmas.{said_same}
-use Rattle.sm_check_answers.proofs.WalkLemmas.{none_said, up_to_firsts}
+use Rattle.sm_check_clauses.specs.Judges.{IsOwnLine}
+use Rattle.sm_check_clauses.specs.Judging.{Subject, answer}
+use Rattle.sm_check_clauses.specs.Said.{first_in, rotation_in, rotations_in, all_needs_in, is_up_to_firsts, is_up_to_rotations}
+use Rattle.sm_check_clauses.specs.SeatMatchings.{first_of, seat_places_in}
+use Rattle.sm_check_clauses.specs.Walks.{IsChainWalk, IsWalkOf, IsChainAt}
+use Rattle.sm_check_clauses.specs.declared.seat_pairs.SeatPairs.{SeatPairs}
+use Rattle.sm_check_clauses.specs.declared.chain_walk.ChainWalk.{ChainWalk}
+use Rattle.sm_check_clauses.proofs.AnswerLemmas.{said_same}
+use Rattle.sm_check_clauses.proofs.WalkLemmas.{none_said, up_to_firsts}
 use Rattle.sm_check_weight.specs.Kept.{AreNeedsSoFar, IsWholeWalk, HasWholePoset}
 
 -- a line of an instance is one of each answer over it, and such an answer has one instance

@@ -9,18 +9,18 @@ use Rattle.sm_report.specs.Heads.{HeadData}
 use Rattle.sm_report.specs.declared.lines.Line.{Line}
 use Rattle.sm_report.specs.Lines.{LineData, line_of}
 use Rattle.sm_check_answers.specs.declared.rotations.RotationsJudge.{RotationsJudge}
-use Rattle.sm_check_answers.specs.declared.verdicts.Reason.{Reason}
-use Rattle.sm_check_answers.specs.declared.verdicts.Reason.TheVariants as reason
-use Rattle.sm_check_answers.specs.Chain.{RotationsHold}
-use Rattle.sm_check_answers.specs.Flows.{WeightHolds}
-use Rattle.sm_check_answers.specs.Judges.{Judges}
-use Rattle.sm_check_answers.specs.Judging.{answer}
-use Rattle.sm_check_answers.specs.Said.{is_up_to_rotations}
-use Rattle.sm_check_answers.specs.Verdicts.{Finds}
-use Rattle.sm_check_answers.specs.Walking.{FindsOrKeeps}
-use Rattle.sm_check_answers.specs.Walks.{IsChainKept}
-use Rattle.sm_check_answers.proofs.AnswerLemmas.{kept_as}
-use Rattle.sm_check_answers.proofs.JudgingLemmas.{line_at, above_next}
+use Rattle.sm_check_clauses.specs.declared.verdicts.Reason.{Reason}
+use Rattle.sm_check_clauses.specs.declared.verdicts.Reason.TheVariants as reason
+use Rattle.sm_check_clauses.specs.Chain.{RotationsHold}
+use Rattle.sm_check_clauses.specs.Flows.{WeightHolds}
+use Rattle.sm_check_clauses.specs.Judges.{Judges}
+use Rattle.sm_check_clauses.specs.Judging.{answer}
+use Rattle.sm_check_clauses.specs.Said.{is_up_to_rotations}
+use Rattle.sm_check_clauses.specs.Verdicts.{Finds}
+use Rattle.sm_check_clauses.specs.Walking.{FindsOrKeeps}
+use Rattle.sm_check_clauses.specs.Walks.{IsChainKept}
+use Rattle.sm_check_clauses.proofs.AnswerLemmas.{kept_as}
+use Rattle.sm_check_clauses.proofs.JudgingLemmas.{line_at, above_next}
 use Rattle.sm_check_weight.specs.Kept.{ClaimHolds, AreTables, IsClaimAt, IsClaimOf, IsJudgeOf, IsNextLine}
 use Rattle.sm_check_weight.specs.Order.{AreNeedsInOrder}
 use Rattle.sm_check_weight.specs.declared.claims.Claim.{Claim}

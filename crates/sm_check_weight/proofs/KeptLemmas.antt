@@ -24,19 +24,19 @@ use Rattle.sm_placed.specs.Levels.{has_two_levels, seconds_by}
 use Rattle.sm_report.specs.Lines.{LineData, line_of}
 use Rattle.sm_report.specs.declared.lines.Line.{Line}
 use Rattle.sm_check_forms.specs.Layouts.{is_empty}
-use Rattle.sm_check_answers.specs.declared.verdicts.Reason.{Reason}
-use Rattle.sm_check_answers.specs.declared.verdicts.Reason.TheVariants as reason
+use Rattle.sm_check_clauses.specs.declared.verdicts.Reason.{Reason}
+use Rattle.sm_check_clauses.specs.declared.verdicts.Reason.TheVariants as reason
 use Rattle.sm_check_answers.specs.declared.wanted.Stood.{Stood}
-use Rattle.sm_check_answers.specs.Said.{first_in, firsts_in, rotation_in, rotations_in, needs_in, all_needs_in, flow_in, second_flow_in, taken_in, value_in, second_value_in, pair_in, pairs_in, first_said, is_up_to_rotations}
-use Rattle.sm_check_answers.specs.SeatMatchings.{first_of, seat_places_in}
-use Rattle.sm_check_answers.specs.Flows.{Level, size_in, net_in, on_nodes, first_level, second_level, last_level, taken_set}
-use Rattle.sm_check_answers.specs.Pairs.{WantedHold}
-use Rattle.sm_check_answers.specs.Verdicts.{Finds}
-use Rattle.sm_check_answers.specs.Walking.{FindsOrKeeps}
+use Rattle.sm_check_clauses.specs.Said.{first_in, firsts_in, rotation_in, rotations_in, needs_in, all_needs_in, flow_in, second_flow_in, taken_in, value_in, second_value_in, pair_in, pairs_in, first_said, is_up_to_rotations}
+use Rattle.sm_check_clauses.specs.SeatMatchings.{first_of, seat_places_in}
+use Rattle.sm_check_clauses.specs.Flows.{Level, size_in, net_in, on_nodes, first_level, second_level, last_level, taken_set}
+use Rattle.sm_check_clauses.specs.Pairs.{WantedHold}
+use Rattle.sm_check_clauses.specs.Verdicts.{Finds}
+use Rattle.sm_check_clauses.specs.Walking.{FindsOrKeeps}
 use Rattle.sm_check_answers.specs.Stood.{AreStood}
-use Rattle.sm_check_answers.specs.declared.chain_walk.ChainWalk.{ChainWalk}
-use Rattle.sm_check_answers.proofs.AnswerLemmas.{finds_keeping, said_same, said_one}
-use Rattle.sm_check_answers.proofs.WalkLemmas.{none_said}
+use Rattle.sm_check_clauses.specs.declared.chain_walk.ChainWalk.{ChainWalk}
+use Rattle.sm_check_clauses.proofs.AnswerLemmas.{finds_keeping, said_same, said_one}
+use Rattle.sm_check_clauses.proofs.WalkLemmas.{none_said}
 use Rattle.sm_check_weight.specs.declared.claims.Claim.{Claim}
 use Rattle.sm_check_weight.specs.declared.flow_lines.Flow.{Flow}
 use Rattle.sm_check_weight.specs.declared.said.SaidFlow.{SaidFlow}

@@ -6,13 +6,13 @@ use Rattle.sm_instance.specs.Written.{Written}
 use Rattle.sm_instance.specs.declared.kinds.Measure.{Measure}
 use Rattle.sm_placed.specs.Levels.{has_two_levels}
 use Rattle.sm_report.specs.Lines.{LineData}
-use Rattle.sm_check_answers.specs.declared.verdicts.Reason.{Reason}
-use Rattle.sm_check_answers.specs.declared.verdicts.Reason.TheVariants as reason
-use Rattle.sm_check_answers.specs.Flows.{Level, first_level, second_level, last_level, LevelHolds, TakenHolds, taken_matching}
-use Rattle.sm_check_answers.specs.Pairs.{WantedHold}
-use Rattle.sm_check_answers.specs.Said.{gain_in, second_gain_in, flow_in, second_flow_in, taken_in, value_in, second_value_in, cut_in, second_cut_in, total_in, second_total_in, pair_in, pairs_in, is_end}
-use Rattle.sm_check_answers.specs.Verdicts.{Finds}
-use Rattle.sm_check_answers.proofs.AnswerLemmas.{found_by}
+use Rattle.sm_check_clauses.specs.declared.verdicts.Reason.{Reason}
+use Rattle.sm_check_clauses.specs.declared.verdicts.Reason.TheVariants as reason
+use Rattle.sm_check_clauses.specs.Flows.{Level, first_level, second_level, last_level, LevelHolds, TakenHolds, taken_matching}
+use Rattle.sm_check_clauses.specs.Pairs.{WantedHold}
+use Rattle.sm_check_clauses.specs.Said.{gain_in, second_gain_in, flow_in, second_flow_in, taken_in, value_in, second_value_in, cut_in, second_cut_in, total_in, second_total_in, pair_in, pairs_in, is_end}
+use Rattle.sm_check_clauses.specs.Verdicts.{Finds}
+use Rattle.sm_check_clauses.proofs.AnswerLemmas.{found_by}
 use Rattle.sm_check_weight.specs.Kept.{ClaimHolds}
 
 -- a line that says nothing of a level

@@ -8,7 +8,7 @@ use Rattle.sm_check_net.specs.declared.moves.Move.{Move}
 use Rattle.sm_check_net.specs.Moves.{move_at, row_of_moves}
 use Rattle.sm_check_net.proofs.MoveLemmas.{moves_have_weights}
 use Rattle.sm_lists.proofs.Counting.{one_to_one-le}
-use Rattle.sm_check_answers.specs.Walks.{AreChainMoves}
+use Rattle.sm_check_clauses.specs.Walks.{AreChainMoves}
 use Rattle.sm_check_weight.specs.Gains.{CanBeWeighed}
 
 -- a rotation has no more pairs than there are proposers

@@ -24,10 +24,10 @@ use Rattle.sm_seats.specs.Seating.{seating_of, levels_of}
 use Rattle.sm_seats.specs.Correspondence.{weights_of, leveled}
 use Rattle.sm_seats.proofs.MarketLaws.{length-proposers}
 use Rattle.sm_report.specs.Lines.{LineData}
-use Rattle.sm_check_answers.specs.declared.chain_walk.ChainWalk.{ChainWalk}
-use Rattle.sm_check_answers.specs.Said.{rotations_in, all_needs_in}
-use Rattle.sm_check_answers.specs.SeatMatchings.{first_of}
-use Rattle.sm_check_answers.specs.Flows.{net_in}
+use Rattle.sm_check_clauses.specs.declared.chain_walk.ChainWalk.{ChainWalk}
+use Rattle.sm_check_clauses.specs.Said.{rotations_in, all_needs_in}
+use Rattle.sm_check_clauses.specs.SeatMatchings.{first_of}
+use Rattle.sm_check_clauses.specs.Flows.{net_in}
 use Rattle.sm_check_weight.specs.Kept.{HasWholePoset}
 use Rattle.sm_check_weight.proofs.WholeLemmas.{complete}
 use Rattle.sm_check_weight.proofs.NeedsLemmas.{needs_at_end}

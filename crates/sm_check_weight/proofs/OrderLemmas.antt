@@ -11,10 +11,10 @@ use Rattle.sm_theory.specs.Chains.{AreNeedsOf}
 use Rattle.sm_seats.specs.SeatMarket.{seat_market}
 use Rattle.sm_report.specs.Lines.{LineData}
 use Rattle.sm_check_forms.proofs.TakingLemmas.{all_more}
-use Rattle.sm_check_answers.specs.Chain.{last_rotation}
-use Rattle.sm_check_answers.specs.Said.{rotation_in, rotations_in, needs_in, all_needs_in, is_up_to_rotations}
-use Rattle.sm_check_answers.proofs.JudgingLemmas.{above_next}
-use Rattle.sm_check_answers.proofs.AnswerLemmas.{said_same, said_one}
+use Rattle.sm_check_clauses.specs.Chain.{last_rotation}
+use Rattle.sm_check_clauses.specs.Said.{rotation_in, rotations_in, needs_in, all_needs_in, is_up_to_rotations}
+use Rattle.sm_check_clauses.proofs.JudgingLemmas.{above_next}
+use Rattle.sm_check_clauses.proofs.AnswerLemmas.{said_same, said_one}
 use Rattle.sm_check_weight.specs.Kept.{AreNeedsSoFar, IsClaimAt}
 use Rattle.sm_check_weight.specs.Order.{AreNeedsInOrder}
 use Rattle.sm_check_weight.specs.declared.claims.Claim.{Claim}

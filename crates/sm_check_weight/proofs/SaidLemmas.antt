@@ -6,7 +6,7 @@ use Rattle.std.proofs.lemmas.List.{map_more}
 use Rattle.std.proofs.lemmas.List.Elements.{filter_map-append}
 use Rattle.sm_report.specs.declared.lines.Line.{Line}
 use Rattle.sm_report.specs.Lines.{LineData, line_of}
-use Rattle.sm_check_answers.specs.Said.{needs_in, flow_in}
+use Rattle.sm_check_clauses.specs.Said.{needs_in, flow_in}
 
 module _ {X : Type 0} (said : LineData → Option X) (lines : List Line) (i : ℕ) (x : Line) (inside : i < length lines) (is : x ≡ get_or lines i x) where
   said_next : filter_map said (map line_of (take (i + 1) lines)) ≡ filter_map said (map line_of (take i lines)) ++ cons_option (said (line_of x)) []

@@ -24,8 +24,8 @@ use Rattle.sm_report.specs.Lines.{LineData}
 use Rattle.sm_check_net.specs.CheckedNets.{NetParts, net_of_parts, gain_at, AreNumbersBelow}
 use Rattle.sm_check_net.proofs.EdgeLemmas.{edges_are_on_nodes}
 use Rattle.sm_check_net.proofs.ResidualLemmas.{has_part}
-use Rattle.sm_check_answers.specs.Flows.{net_in, second_level}
-use Rattle.sm_check_answers.specs.Said.{rotations_in, flow_in}
+use Rattle.sm_check_clauses.specs.Flows.{net_in, second_level}
+use Rattle.sm_check_clauses.specs.Said.{rotations_in, flow_in}
 use Rattle.sm_check_weight.specs.Kept.{flow_on}
 
 -- the ends of an amount of lines on nodes are nodes

@@ -5,7 +5,7 @@ use Rattle.std.proofs.lemmas.Bool.{false≢true, eqb-true}
 use Rattle.std.proofs.lemmas.List.{ext_get_or, length-set, get_or-set_same, get_or-set_other, get_or-replicate, length-replicate}
 use Rattle.std.proofs.lemmas.List.Folds.{list_any-append}
 use Rattle.std.proofs.lemmas.List.FromFn.{get_or-map-range_with_len, length-map-range_with_len}
-use Rattle.sm_check_answers.specs.Flows.{set_of_numbers}
+use Rattle.sm_check_clauses.specs.Flows.{set_of_numbers}
 
 -- whether number k + 1 is one of these
 abbrev is_taken : List ℕ → ℕ → Bool

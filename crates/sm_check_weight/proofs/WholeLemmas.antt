@@ -14,10 +14,10 @@ use Rattle.sm_seats.specs.SeatMarket.{seat_market}
 use Rattle.sm_seats.specs.Seating.{seating_of}
 use Rattle.sm_seats.specs.Correspondence.{IsSeating}
 use Rattle.sm_report.specs.Lines.{LineData}
-use Rattle.sm_check_answers.specs.declared.chain_walk.ChainWalk.{ChainWalk}
-use Rattle.sm_check_answers.specs.Said.{rotations_in}
-use Rattle.sm_check_answers.specs.SeatMatchings.{first_of}
-use Rattle.sm_check_answers.specs.Flows.{matching_of_set}
+use Rattle.sm_check_clauses.specs.declared.chain_walk.ChainWalk.{ChainWalk}
+use Rattle.sm_check_clauses.specs.Said.{rotations_in}
+use Rattle.sm_check_clauses.specs.SeatMatchings.{first_of}
+use Rattle.sm_check_clauses.specs.Flows.{matching_of_set}
 use Rattle.sm_check_weight.specs.Kept.{IsWholeWalk}
 
 module _ {w : Written} {above : List LineData} {walk : ChainWalk} (k : IsWholeWalk w above walk) where

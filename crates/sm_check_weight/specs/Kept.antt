@@ -20,13 +20,13 @@ use Rattle.sm_lists.specs.Rows.{rows_of}
 use Rattle.sm_theory.specs.Sizes.{weights_in, AreWeights}
 use Rattle.sm_report.specs.Lines.{LineData, line_of}
 use Rattle.sm_check_forms.specs.Layouts.{is_empty}
-use Rattle.sm_check_answers.specs.declared.verdicts.Reason.{Reason}
-use Rattle.sm_check_answers.specs.declared.chain_walk.ChainWalk.{ChainWalk}
-use Rattle.sm_check_answers.specs.Said.{rotations_in, all_needs_in, flow_in, second_flow_in, taken_in, value_in, second_value_in, pairs_in, first_said, is_up_to_rotations}
-use Rattle.sm_check_answers.specs.SeatMatchings.{first_of}
-use Rattle.sm_check_answers.specs.Flows.{size_in, net_in, on_nodes, set_of_numbers, first_level, second_level, last_level, taken_matching, LevelHolds, TakenHolds}
-use Rattle.sm_check_answers.specs.Pairs.{WantedHold}
-use Rattle.sm_check_answers.specs.Walks.{IsWalkOf, IsChainKept}
+use Rattle.sm_check_clauses.specs.declared.verdicts.Reason.{Reason}
+use Rattle.sm_check_clauses.specs.declared.chain_walk.ChainWalk.{ChainWalk}
+use Rattle.sm_check_clauses.specs.Said.{rotations_in, all_needs_in, flow_in, second_flow_in, taken_in, value_in, second_value_in, pairs_in, first_said, is_up_to_rotations}
+use Rattle.sm_check_clauses.specs.SeatMatchings.{first_of}
+use Rattle.sm_check_clauses.specs.Flows.{size_in, net_in, on_nodes, set_of_numbers, first_level, second_level, last_level, taken_matching, LevelHolds, TakenHolds}
+use Rattle.sm_check_clauses.specs.Pairs.{WantedHold}
+use Rattle.sm_check_clauses.specs.Walks.{IsWalkOf, IsChainKept}
 use Rattle.sm_check_answers.specs.Stood.{AreStood}
 use Rattle.sm_check_weight.specs.declared.claims.Claim.{Claim}
 use Rattle.sm_check_weight.specs.declared.judging.WeightJudge.{WeightJudge}

@@ -3,7 +3,7 @@ use Rattle.std.specs.Prelude.{◌≡◌, ℕ, ◌+◌, List, length, take, Some,
 use Rattle.std.specs.List.{list_all, slice_get}
 use Rattle.sm_instance.specs.Written.{Written}
 use Rattle.sm_report.specs.Lines.{LineData}
-use Rattle.sm_check_answers.specs.Said.{rotations_in, needs_in, all_needs_in, is_up_to_rotations}
+use Rattle.sm_check_clauses.specs.Said.{rotations_in, needs_in, all_needs_in, is_up_to_rotations}
 
 -- what a rotation needs stands behind it, before the next one, and stands there for each; and nothing else stands among them
 pub record AreNeedsInOrder (w : Written) (lines : List LineData) : Type 0 where

@@ -6,11 +6,11 @@ ghost use Rattle.sm_theory.specs.FlowLines.{line_at};
 ghost use Rattle.sm_check_net.specs.CheckedNets.{net_of_parts};
 ghost use Rattle.sm_check_net.specs.Repeats.{AreRepeats};
 ghost use Rattle.sm_report.specs.Lines.{line_of};
-ghost use Rattle.sm_check_answers.specs.Flows.{node_of, on_nodes};
-ghost use Rattle.sm_check_answers.specs.Walking.{FindsOrKeeps};
+ghost use Rattle.sm_check_clauses.specs.Flows.{node_of, on_nodes};
+ghost use Rattle.sm_check_clauses.specs.Walking.{FindsOrKeeps};
 ghost use Rattle.sm_check_weight.specs.FlowClauses.{NextHolds, flow_line, amount_in, flows_of};
 
-use sm_check_answers::Reason;
+use sm_check_clauses::Reason;
 use sm_check_net::{CheckedNet, repeated_lines};
 use sm_report::Line;
 use sm_theory::FlowLine;

@@ -8,10 +8,10 @@ ghost use Rattle.sm_theory.specs.Sizes.{weights_in};
 ghost use Rattle.sm_theory.specs.Weights.{gain_of};
 ghost use Rattle.sm_check_net.specs.Moves.{moves_in, row_of_moves, AreMovesByRotation};
 ghost use Rattle.sm_report.specs.Lines.{line_of};
-ghost use Rattle.sm_check_answers.specs.Said.{all_needs_in};
+ghost use Rattle.sm_check_clauses.specs.Said.{all_needs_in};
 ghost use Rattle.sm_check_weight.specs.Gains.{CanBeWeighed};
 
-use sm_check_answers::from_zero;
+use sm_check_clauses::from_zero;
 use sm_check_net::{Move, gain};
 use sm_report::Line;
 use std::alloc::{AllocError, Global};

@@ -5,17 +5,17 @@ ghost use Rattle.sm_seats.specs.Seating.{seating_of};
 ghost use Rattle.sm_seats.specs.Counted.{first_seats_of};
 ghost use Rattle.sm_report.specs.Heads.{HeadData};
 ghost use Rattle.sm_report.specs.Lines.{LineData, line_of};
-ghost use Rattle.sm_check_answers.specs.Judges.{IsKnown, IsOwnLine};
-ghost use Rattle.sm_check_answers.specs.Judging.{answer, Clauses};
-ghost use Rattle.sm_check_answers.specs.Said.{rotations_in, flow_in, is_up_to_rotations};
-ghost use Rattle.sm_check_answers.specs.Verdicts.{AtLine, Finds, IsVerdict};
-ghost use Rattle.sm_check_answers.specs.Walks.{IsChainAt};
-ghost use Rattle.sm_check_answers.specs.Walking.{FindsOrKeeps};
+ghost use Rattle.sm_check_clauses.specs.Judges.{IsKnown, IsOwnLine};
+ghost use Rattle.sm_check_clauses.specs.Judging.{answer, Clauses};
+ghost use Rattle.sm_check_clauses.specs.Said.{rotations_in, flow_in, is_up_to_rotations};
+ghost use Rattle.sm_check_clauses.specs.Verdicts.{AtLine, Finds, IsVerdict};
+ghost use Rattle.sm_check_clauses.specs.Walks.{IsChainAt};
+ghost use Rattle.sm_check_clauses.specs.Walking.{FindsOrKeeps};
 ghost use Rattle.std.specs.List.{list_all};
 ghost use Rattle.sm_check_net.specs.CheckedNets.{net_of_parts, NeedsAreOf};
 ghost use Rattle.sm_seats.specs.Correspondence.{IsSeating};
 ghost use Rattle.sm_seats.specs.SeatMarket.{seat_market};
-ghost use Rattle.sm_check_answers.specs.Flows.{WeightHolds, net_in};
+ghost use Rattle.sm_check_clauses.specs.Flows.{WeightHolds, net_in};
 ghost use Rattle.sm_check_weight.specs.Kept.{AreTables, ClaimHolds, HasClaim, HasSecond, IsClaimAt, IsClaimOf, HasWholePoset, IsJudgeOf};
 ghost use Rattle.sm_check_weight.specs.Order.{AreNeedsInOrder};
 
@@ -24,9 +24,8 @@ use crate::flow_lines::{Flow, FlowLevel};
 use crate::gains::{all_needs, gains_of, last_gain};
 use crate::said::SaidFlow;
 use crate::taken::Taken;
-use sm_check_answers::{
-    ChainWalk, Judge, Reason, RotationsJudge, Stood, Verdict, is_up_to_rotations,
-};
+use sm_check_answers::{RotationsJudge, Stood};
+use sm_check_clauses::{ChainWalk, Judge, Reason, Verdict, is_up_to_rotations};
 use sm_check_net::{CheckedNet, bonds, second_net};
 use sm_instance::{Instance, Measure};
 use sm_placed::{has_two_levels, leveled, seconds_of_places, weights_of_places};

@@ -3,12 +3,12 @@
 ghost use Rattle.std.specs.Prelude.{◌≡◌, ◌≤◌, length, take, unwrap_or, Some};
 ghost use Rattle.std.specs.Option.{option_or};
 ghost use Rattle.sm_check_net.specs.CheckedNets.{net_of_parts};
-ghost use Rattle.sm_check_answers.specs.Verdicts.{Finds};
-ghost use Rattle.sm_check_answers.specs.Walking.{FindsOrKeeps};
+ghost use Rattle.sm_check_clauses.specs.Verdicts.{Finds};
+ghost use Rattle.sm_check_clauses.specs.Walking.{FindsOrKeeps};
 ghost use Rattle.sm_check_weight.specs.ClaimClauses.{ValueHolds, CutHolds};
 
 use crate::flow_lines::Flow;
-use sm_check_answers::Reason;
+use sm_check_clauses::Reason;
 use sm_check_net::{CheckedNet, amount_from_source};
 
 /// The lines of a flow, and the value of it that is said first.

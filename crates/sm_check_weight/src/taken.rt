@@ -7,13 +7,13 @@ ghost use Rattle.sm_seats.specs.Correspondence.{IsSeating};
 ghost use Rattle.sm_seats.specs.SeatMarket.{seat_market};
 ghost use Rattle.sm_seats.specs.Seating.{seating_of};
 ghost use Rattle.sm_report.specs.Lines.{LineData};
-ghost use Rattle.sm_check_answers.specs.Flows.{set_of_numbers, matching_of_set, IsAllowedSet};
-ghost use Rattle.sm_check_answers.specs.Said.{rotations_in};
-ghost use Rattle.sm_check_answers.specs.SeatMatchings.{first_of};
+ghost use Rattle.sm_check_clauses.specs.Flows.{set_of_numbers, matching_of_set, IsAllowedSet};
+ghost use Rattle.sm_check_clauses.specs.Said.{rotations_in};
+ghost use Rattle.sm_check_clauses.specs.SeatMatchings.{first_of};
 ghost use Rattle.sm_check_weight.specs.Kept.{IsWholeWalk, HasWholeWalk, HasNeededWalk, HasClosedSet, IsSetOf};
 
 use crate::judging::Weighed;
-use sm_check_answers::ChainWalk;
+use sm_check_clauses::ChainWalk;
 use sm_check_net::{CheckedNet, is_closed, set_places};
 use sm_instance::Assignment;
 use sm_market::Pairing;

@@ -18,8 +18,8 @@ use Rattle.sm_check_forms.specs.declared.layouts.LayoutPart.TheVariants.{Blocks}
 use Rattle.sm_check_forms.specs.declared.layouts.Opening.{Opening}
 use Rattle.sm_check_forms.specs.Layouts.{left_behind, is_empty, is_whole}
 use Rattle.sm_check_forms.specs.Forms.{opening_of, closing}
-use Rattle.sm_check_answers.specs.declared.verdicts.Reason.{Reason}
-use Rattle.sm_check_answers.proofs.LinewiseLemmas.{hold_append}
+use Rattle.sm_check_clauses.specs.declared.verdicts.Reason.{Reason}
+use Rattle.sm_check_clauses.proofs.LinewiseLemmas.{hold_append}
 use Rattle.sm_law_agree.proofs.LineLemmas.{Held, pass_append}
 
 -- Blocks of lines, by their numbers.

@@ -19,13 +19,13 @@ use Rattle.sm_report.specs.declared.keywords.Keyword.TheVariants as keyword
 use Rattle.sm_check_forms.specs.declared.layouts.LayoutPart.TheVariants.{One, Many}
 use Rattle.sm_check_forms.specs.Layouts.{is_whole}
 use Rattle.sm_check_forms.specs.Forms.{fits, opening_of, closing, given_layout}
-use Rattle.sm_check_answers.specs.declared.verdicts.Reason.{Reason}
-use Rattle.sm_check_answers.specs.declared.verdicts.Reason.TheVariants as reason
-use Rattle.sm_check_answers.specs.Said.{pair_in, pairs_in, left_in, lefts_in, right_in, rights_in}
-use Rattle.sm_check_answers.specs.Pairs.{IsFree, IsWanted, AreAllThere, ChosenHold}
-use Rattle.sm_check_answers.proofs.LinewiseLemmas.{AllHold, all_hold, hold_append, no_end}
+use Rattle.sm_check_clauses.specs.declared.verdicts.Reason.{Reason}
+use Rattle.sm_check_clauses.specs.declared.verdicts.Reason.TheVariants as reason
+use Rattle.sm_check_clauses.specs.Said.{pair_in, pairs_in, left_in, lefts_in, right_in, rights_in}
+use Rattle.sm_check_clauses.specs.Pairs.{IsFree, IsWanted, AreAllThere, ChosenHold}
+use Rattle.sm_check_clauses.proofs.LinewiseLemmas.{AllHold, all_hold, hold_append, no_end}
 use Rattle.sm_law_agree.specs.Agree.{GetYes, MeetAgrees, JoinAgrees}
-use Rattle.sm_check_answers.proofs.AnswerLemmas.{said_same}
+use Rattle.sm_check_clauses.proofs.AnswerLemmas.{said_same}
 use Rattle.sm_law_agree.proofs.LineLemmas.{Held, pass_append, has_word, has_other, is_whole-group, yes_of}
 use Rattle.sm_law_agree.proofs.PairLemmas.{AreBelow, free_below, all_below, wanted_pair, all_wanted, lines_with, Above, pairs_hold, pairs_pass}
 

@@ -23,13 +23,13 @@ use Rattle.sm_check_forms.specs.declared.layouts.LayoutPart.TheVariants.{One}
 use Rattle.sm_check_forms.specs.Layouts.{is_whole}
 use Rattle.sm_check_forms.specs.Forms.{opening_of, fits, is_placed, solve_layout, parties_layout}
 use Rattle.sm_pairs.specs.Held.{partner_in}
-use Rattle.sm_check_answers.specs.declared.verdicts.Reason.{Reason}
-use Rattle.sm_check_answers.specs.declared.verdicts.Reason.TheVariants as reason
-use Rattle.sm_check_answers.specs.Said.{pair_in, pairs_in}
-use Rattle.sm_check_answers.specs.Rooming.{persons_of, both_ways, mates_in, IsFreeCouple}
-use Rattle.sm_check_answers.specs.Verdicts.{AtLine}
-use Rattle.sm_check_answers.specs.Judging.{couples, Clauses, Holds}
-use Rattle.sm_check_answers.proofs.LinewiseLemmas.{AllHold, all_hold, hold_append, no_end}
+use Rattle.sm_check_clauses.specs.declared.verdicts.Reason.{Reason}
+use Rattle.sm_check_clauses.specs.declared.verdicts.Reason.TheVariants as reason
+use Rattle.sm_check_clauses.specs.Said.{pair_in, pairs_in}
+use Rattle.sm_check_clauses.specs.Rooming.{persons_of, both_ways, mates_in, IsFreeCouple}
+use Rattle.sm_check_clauses.specs.Verdicts.{AtLine}
+use Rattle.sm_check_clauses.specs.Judging.{couples, Clauses, Holds}
+use Rattle.sm_check_clauses.proofs.LinewiseLemmas.{AllHold, all_hold, hold_append, no_end}
 use Rattle.sm_check_roommates.proofs.PersonLemmas.{among_of}
 use Rattle.sm_check_roommates.proofs.CoupleLemmas.{partner_in-append, partner_there}
 use Rattle.sm_law_agree.specs.Agree.{GetYes, CouplesAgree}

@@ -23,7 +23,7 @@ use Rattle.sm_theory.proofs.Flow.Second.{step_of_edge}
 use Rattle.sm_theory.proofs.Net.Tests.{and_parts}
 use Rattle.sm_report.specs.Texts.{SINK}
 use Rattle.sm_answer_weight.specs.WeightAnswer.{shown_node, member_numbers}
-use Rattle.sm_check_answers.specs.Flows.{node_of, on_nodes, set_of_numbers}
+use Rattle.sm_check_clauses.specs.Flows.{node_of, on_nodes, set_of_numbers}
 
 -- Nodes.
 

@@ -15,9 +15,9 @@ use Rattle.sm_check_forms.specs.declared.layouts.LayoutPart.TheVariants.{Many}
 use Rattle.sm_check_forms.specs.declared.layouts.Opening.{Opening}
 use Rattle.sm_check_forms.specs.Layouts.{begins, behind, left_behind, is_empty, is_whole}
 use Rattle.sm_check_forms.specs.Forms.{opening_of, fits, is_placed}
-use Rattle.sm_check_answers.specs.declared.verdicts.Reason.{Reason}
-use Rattle.sm_check_answers.specs.Judging.{Clauses, Holds}
-use Rattle.sm_check_answers.proofs.LinewiseLemmas.{AllHold}
+use Rattle.sm_check_clauses.specs.declared.verdicts.Reason.{Reason}
+use Rattle.sm_check_clauses.specs.Judging.{Clauses, Holds}
+use Rattle.sm_check_clauses.proofs.LinewiseLemmas.{AllHold}
 use Rattle.sm_law_agree.specs.Agree.{GetYes}
 
 -- Clauses at the lines of numbers.

@@ -22,12 +22,12 @@ use Rattle.sm_report.specs.declared.keywords.Keyword.TheVariants as keyword
 use Rattle.sm_check_forms.specs.declared.layouts.LayoutPart.TheVariants.{One}
 use Rattle.sm_check_forms.specs.Layouts.{is_whole}
 use Rattle.sm_check_forms.specs.Forms.{opening_of, fits, is_placed, list_layout}
-use Rattle.sm_check_answers.specs.declared.verdicts.Reason.{Reason}
-use Rattle.sm_check_answers.specs.declared.verdicts.Reason.TheVariants as reason
-use Rattle.sm_check_answers.specs.Said.{vector_in, vectors_in}
-use Rattle.sm_check_answers.specs.Vectors.{place_of_rank, places_of_ranks, VectorHolds}
-use Rattle.sm_check_answers.specs.Judging.{answer, Clauses}
-use Rattle.sm_check_answers.proofs.LinewiseLemmas.{AllHold, all_hold, hold_append}
+use Rattle.sm_check_clauses.specs.declared.verdicts.Reason.{Reason}
+use Rattle.sm_check_clauses.specs.declared.verdicts.Reason.TheVariants as reason
+use Rattle.sm_check_clauses.specs.Said.{vector_in, vectors_in}
+use Rattle.sm_check_clauses.specs.Vectors.{place_of_rank, places_of_ranks, VectorHolds}
+use Rattle.sm_check_clauses.specs.Judging.{answer, Clauses}
+use Rattle.sm_check_clauses.proofs.LinewiseLemmas.{AllHold, all_hold, hold_append}
 use Rattle.sm_check_answers.proofs.ListingLemmas.{end_of-append}
 use Rattle.sm_law_agree.specs.Agree.{GetYes, ListAgrees}
 use Rattle.sm_law_agree.proofs.LineLemmas.{Held, pass_append, map_pass, has_word, is_whole-group, is_whole-append_first, is_whole-append_second, yes_of}

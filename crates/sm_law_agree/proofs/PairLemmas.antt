@@ -19,9 +19,9 @@ use Rattle.sm_pairs.specs.Held.{partner_in, paired_place, places_in}
 use Rattle.sm_pairs.proofs.HoldingLemmas.{partner_in-push_same, partner_in-push_other, held_place}
 use Rattle.sm_report.specs.Lines.{LineData}
 use Rattle.sm_answer.specs.Lines.{line_or_none, lines_from}
-use Rattle.sm_check_answers.specs.declared.verdicts.Reason.{Reason}
-use Rattle.sm_check_answers.specs.Pairs.{times_second, IsFree, IsWanted, AreAllThere}
-use Rattle.sm_check_answers.proofs.AnswerLemmas.{said_one}
+use Rattle.sm_check_clauses.specs.declared.verdicts.Reason.{Reason}
+use Rattle.sm_check_clauses.specs.Pairs.{times_second, IsFree, IsWanted, AreAllThere}
+use Rattle.sm_check_clauses.proofs.AnswerLemmas.{said_one}
 use Rattle.sm_law_agree.proofs.LineLemmas.{Steps, Held, numbers_hold, numbers_pass}
 
 -- the reviewer that a proposer has

@@ -24,17 +24,17 @@ use Rattle.sm_report.specs.declared.keywords.Keyword.TheVariants as keyword
 use Rattle.sm_check_forms.specs.declared.layouts.LayoutPart.TheVariants.{One}
 use Rattle.sm_check_forms.specs.Layouts.{is_whole}
 use Rattle.sm_check_forms.specs.Forms.{opening_of, fits, is_placed, solve_layout, parties_layout, begins_with_lowest}
-use Rattle.sm_check_answers.specs.declared.verdicts.Reason.{Reason}
-use Rattle.sm_check_answers.specs.declared.verdicts.Reason.TheVariants as reason
-use Rattle.sm_check_answers.specs.Said.{party_in, parties_in}
-use Rattle.sm_check_answers.specs.Rooming.{members_of, next_of, nexts_of, AreNew, IsWholePartition, HasOddParty}
+use Rattle.sm_check_clauses.specs.declared.verdicts.Reason.{Reason}
+use Rattle.sm_check_clauses.specs.declared.verdicts.Reason.TheVariants as reason
+use Rattle.sm_check_clauses.specs.Said.{party_in, parties_in}
+use Rattle.sm_check_clauses.specs.Rooming.{members_of, next_of, nexts_of, AreNew, IsWholePartition, HasOddParty}
 use Rattle.sm_check_roommates.specs.PartiesKept.{is_among, follower}
-use Rattle.sm_check_answers.specs.Judging.{Subject, Clauses}
-use Rattle.sm_check_answers.proofs.LinewiseLemmas.{AllHold, all_hold, hold_append, no_end}
+use Rattle.sm_check_clauses.specs.Judging.{Subject, Clauses}
+use Rattle.sm_check_clauses.proofs.LinewiseLemmas.{AllHold, all_hold, hold_append, no_end}
 use Rattle.sm_check_roommates.proofs.PersonLemmas.{of_among}
 use Rattle.sm_check_roommates.proofs.PartyLemmas.{is_among-none, is_among-members_push, new_where, is_among-get_or, next_of-push_there, next_of-push_other, next_in_party-get_or}
 use Rattle.sm_law_agree.specs.Agree.{GetYes, PartiesAgree}
-use Rattle.sm_check_answers.proofs.AnswerLemmas.{said_one}
+use Rattle.sm_check_clauses.proofs.AnswerLemmas.{said_one}
 use Rattle.sm_law_agree.proofs.LineLemmas.{Steps, Held, numbers_hold, numbers_pass, pass_append, has_word, is_whole-group, is_whole-append_second, yes_of}
 
 -- The parties of a permutation are apart, and give it.

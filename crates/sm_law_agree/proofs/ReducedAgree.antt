@@ -31,16 +31,16 @@ use Rattle.sm_report.specs.declared.keywords.Keyword.TheVariants as keyword
 use Rattle.sm_check_forms.specs.declared.layouts.LayoutPart.TheVariants.{One, Many}
 use Rattle.sm_check_forms.specs.Layouts.{is_whole}
 use Rattle.sm_check_forms.specs.Forms.{fits, is_placed, closing}
-use Rattle.sm_check_answers.specs.declared.verdicts.Reason.{Reason}
-use Rattle.sm_check_answers.specs.declared.verdicts.Reason.TheVariants as reason
-use Rattle.sm_check_answers.specs.Said.{first_in, firsts_in, last_in, lasts_in, proposer_list_in, proposer_lists_in, reviewer_list_in, reviewer_lists_in, is_end, is_up_to_firsts, is_up_to_lasts, IsFirstBehind}
-use Rattle.sm_check_answers.specs.SeatMatchings.{IsFreeSeat, seat_places_in, first_of, last_of}
-use Rattle.sm_check_answers.specs.Chain.{HasOneEach, owners, reduced_of, IsRowOf, ListsAreRight, ReducedHold}
-use Rattle.sm_check_answers.proofs.LinewiseLemmas.{AllHold, all_hold, hold_append, no_end}
+use Rattle.sm_check_clauses.specs.declared.verdicts.Reason.{Reason}
+use Rattle.sm_check_clauses.specs.declared.verdicts.Reason.TheVariants as reason
+use Rattle.sm_check_clauses.specs.Said.{first_in, firsts_in, last_in, lasts_in, proposer_list_in, proposer_lists_in, reviewer_list_in, reviewer_lists_in, is_end, is_up_to_firsts, is_up_to_lasts, IsFirstBehind}
+use Rattle.sm_check_clauses.specs.SeatMatchings.{IsFreeSeat, seat_places_in, first_of, last_of}
+use Rattle.sm_check_clauses.specs.Chain.{HasOneEach, owners, reduced_of, IsRowOf, ListsAreRight, ReducedHold}
+use Rattle.sm_check_clauses.proofs.LinewiseLemmas.{AllHold, all_hold, hold_append, no_end}
 use Rattle.sm_check_roommates.proofs.PartyLemmas.{is_among-get_or, once}
 use Rattle.sm_check_roommates.specs.PartiesKept.{is_among}
 use Rattle.sm_law_agree.specs.Agree.{GetYes, ReducedAgrees}
-use Rattle.sm_check_answers.proofs.AnswerLemmas.{said_same, said_one}
+use Rattle.sm_check_clauses.proofs.AnswerLemmas.{said_same, said_one}
 use Rattle.sm_law_agree.proofs.LineLemmas.{Steps, Held, numbers_hold, numbers_pass, pass_append, has_word, has_other, is_whole-group, yes_of}
 use Rattle.sm_law_agree.proofs.SeatLemmas.{seat_number_is, is_seat_shown, seat_numbers_are, are_seats_shown, all_seated, SeatsAbove, seats_hold, seats_pass}
 

@@ -24,14 +24,14 @@ use Rattle.sm_check_forms.specs.declared.layouts.LayoutPart.TheVariants.{One}
 use Rattle.sm_check_forms.specs.Layouts.{is_whole}
 use Rattle.sm_check_forms.specs.Forms.{fits, is_placed}
 use Rattle.sm_pairs.specs.Held.{places_in}
-use Rattle.sm_check_answers.specs.declared.verdicts.Reason.{Reason}
-use Rattle.sm_check_answers.specs.declared.verdicts.Reason.TheVariants as reason
-use Rattle.sm_check_answers.specs.Said.{pair_in, pairs_in, regret_in, first_said}
-use Rattle.sm_check_answers.specs.Pairs.{IsFree}
-use Rattle.sm_check_answers.specs.Judging.{answer, Clauses}
-use Rattle.sm_check_answers.proofs.LinewiseLemmas.{AllHold, all_hold, hold_append, no_end}
+use Rattle.sm_check_clauses.specs.declared.verdicts.Reason.{Reason}
+use Rattle.sm_check_clauses.specs.declared.verdicts.Reason.TheVariants as reason
+use Rattle.sm_check_clauses.specs.Said.{pair_in, pairs_in, regret_in, first_said}
+use Rattle.sm_check_clauses.specs.Pairs.{IsFree}
+use Rattle.sm_check_clauses.specs.Judging.{answer, Clauses}
+use Rattle.sm_check_clauses.proofs.LinewiseLemmas.{AllHold, all_hold, hold_append, no_end}
 use Rattle.sm_law_agree.specs.Agree.{GetYes, RegretAgrees}
-use Rattle.sm_check_answers.proofs.AnswerLemmas.{said_same}
+use Rattle.sm_check_clauses.proofs.AnswerLemmas.{said_same}
 use Rattle.sm_law_agree.proofs.LineLemmas.{Held, pass_append, has_word, is_whole-group, yes_of}
 use Rattle.sm_law_agree.proofs.PairLemmas.{free_below, all_below, lines_with, Above, pairs_hold, pairs_pass}
 

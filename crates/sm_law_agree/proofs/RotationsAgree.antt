@@ -34,14 +34,14 @@ use Rattle.sm_check_forms.specs.Seats.{is_seat, seat_number, all_numbered}
 use Rattle.sm_report.specs.declared.keywords.Keyword.TheVariants as keyword
 use Rattle.sm_check_forms.specs.Layouts.{is_whole}
 use Rattle.sm_check_forms.specs.Forms.{fits, is_placed, blocks_of, closing}
-use Rattle.sm_check_answers.specs.declared.verdicts.Reason.{Reason}
-use Rattle.sm_check_answers.specs.declared.verdicts.Reason.TheVariants as reason
-use Rattle.sm_check_answers.specs.Said.{first_in, firsts_in, rotation_in, rotations_in, needs_in, is_up_to_firsts, is_up_to_rotations, IsFirstBehind}
-use Rattle.sm_check_answers.specs.SeatMatchings.{IsFreeSeat, seat_places_in, first_of}
-use Rattle.sm_check_answers.specs.Chain.{reached, last_rotation, ChainHolds, RotationsHold}
-use Rattle.sm_check_answers.proofs.LinewiseLemmas.{AllHold, all_hold, hold_append, no_end}
+use Rattle.sm_check_clauses.specs.declared.verdicts.Reason.{Reason}
+use Rattle.sm_check_clauses.specs.declared.verdicts.Reason.TheVariants as reason
+use Rattle.sm_check_clauses.specs.Said.{first_in, firsts_in, rotation_in, rotations_in, needs_in, is_up_to_firsts, is_up_to_rotations, IsFirstBehind}
+use Rattle.sm_check_clauses.specs.SeatMatchings.{IsFreeSeat, seat_places_in, first_of}
+use Rattle.sm_check_clauses.specs.Chain.{reached, last_rotation, ChainHolds, RotationsHold}
+use Rattle.sm_check_clauses.proofs.LinewiseLemmas.{AllHold, all_hold, hold_append, no_end}
 use Rattle.sm_law_agree.specs.Agree.{GetYes, RotationsAgree}
-use Rattle.sm_check_answers.proofs.AnswerLemmas.{said_same, said_one}
+use Rattle.sm_check_clauses.proofs.AnswerLemmas.{said_same, said_one}
 use Rattle.sm_law_agree.proofs.LineLemmas.{Held, pass_append, has_word, has_other, is_whole-group, yes_of}
 use Rattle.sm_law_agree.proofs.SeatLemmas.{is_seat_shown, all_numbered-seated, all_seated, SeatsAbove, seats_hold, seats_pass, firsts_hold}
 use Rattle.sm_law_agree.proofs.BlockLemmas.{blocks_hold, blocks_pass, blocks_whole, lines_of, shown_is}

@@ -33,9 +33,9 @@ use Rattle.sm_check_forms.specs.declared.layouts.LayoutPart.{LayoutPart}
 use Rattle.sm_check_forms.specs.declared.layouts.LayoutPart.TheVariants.{One, Many}
 use Rattle.sm_check_forms.specs.Layouts.{is_whole}
 use Rattle.sm_check_forms.specs.Forms.{opening_of, fits, blocks_of, closing, weight_layout}
-use Rattle.sm_check_answers.specs.declared.verdicts.Reason.{Reason}
-use Rattle.sm_check_answers.specs.Said.{pair_in, pairs_in}
-use Rattle.sm_check_answers.proofs.LinewiseLemmas.{AllHold, all_hold, hold_append}
+use Rattle.sm_check_clauses.specs.declared.verdicts.Reason.{Reason}
+use Rattle.sm_check_clauses.specs.Said.{pair_in, pairs_in}
+use Rattle.sm_check_clauses.proofs.LinewiseLemmas.{AllHold, all_hold, hold_append}
 use Rattle.sm_law_agree.specs.Agree.{GetYes, WeightAgrees}
 use Rattle.sm_law_agree.proofs.LineLemmas.{Held, pass_append, map_pass, has_word, has_other, is_whole-group, yes_of}
 use Rattle.sm_law_agree.proofs.PairLemmas.{wanted_pair, all_wanted, lines_with, Above, pairs_hold, pairs_pass}

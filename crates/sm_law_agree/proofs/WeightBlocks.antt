@@ -31,15 +31,15 @@ use Rattle.sm_answer_weight.specs.WeightAnswer.{gain_of_pairs, in_two}
 use Rattle.sm_answer_weight.proofs.GainLemmas.{gain_shown}
 use Rattle.sm_check_forms.specs.Seats.{seat_number, all_numbered}
 use Rattle.sm_check_forms.specs.Forms.{fits}
-use Rattle.sm_check_answers.specs.declared.verdicts.Reason.{Reason}
-use Rattle.sm_check_answers.specs.declared.verdicts.Reason.TheVariants as reason
-use Rattle.sm_check_answers.specs.Said.{first_in, firsts_in, rotations_in, pair_in, pairs_in, IsEnd}
-use Rattle.sm_check_answers.specs.Pairs.{WantedHold}
-use Rattle.sm_check_answers.specs.SeatMatchings.{FirstsHold, IsFreeSeat, first_of}
-use Rattle.sm_check_answers.specs.Chain.{reached, ChainHolds, last_rotation}
-use Rattle.sm_check_answers.specs.Flows.{Level, first_level, second_level, last_level, LevelHolds, TakenHolds, taken_matching, WeightHolds}
-use Rattle.sm_check_answers.proofs.LinewiseLemmas.{no_end}
-use Rattle.sm_check_answers.proofs.AnswerLemmas.{said_same}
+use Rattle.sm_check_clauses.specs.declared.verdicts.Reason.{Reason}
+use Rattle.sm_check_clauses.specs.declared.verdicts.Reason.TheVariants as reason
+use Rattle.sm_check_clauses.specs.Said.{first_in, firsts_in, rotations_in, pair_in, pairs_in, IsEnd}
+use Rattle.sm_check_clauses.specs.Pairs.{WantedHold}
+use Rattle.sm_check_clauses.specs.SeatMatchings.{FirstsHold, IsFreeSeat, first_of}
+use Rattle.sm_check_clauses.specs.Chain.{reached, ChainHolds, last_rotation}
+use Rattle.sm_check_clauses.specs.Flows.{Level, first_level, second_level, last_level, LevelHolds, TakenHolds, taken_matching, WeightHolds}
+use Rattle.sm_check_clauses.proofs.LinewiseLemmas.{no_end}
+use Rattle.sm_check_clauses.proofs.AnswerLemmas.{said_same}
 use Rattle.sm_law_agree.proofs.LineLemmas.{Held}
 use Rattle.sm_law_agree.proofs.SeatLemmas.{is_seat_shown, all_numbered-seated, all_seated, SeatsAbove, seats_hold, seats_pass, firsts_hold}
 use Rattle.sm_law_agree.proofs.BlockLemmas.{blocks_hold, blocks_pass}

@@ -25,11 +25,11 @@ use Rattle.sm_seats.specs.Seating.{Seating, seating_of, levels_of, written_of}
 use Rattle.sm_seats.specs.Correspondence.{leveled, weights_of}
 use Rattle.sm_placed.specs.Levels.{has_two_levels, seconds_by}
 use Rattle.sm_answer_weight.specs.WeightAnswer.{FillsCut, IsCertificate, AreCertificates, WeightParts, net_in, second_net_in, matching_in, flow_line, second_flow_line, member_numbers}
-use Rattle.sm_check_answers.specs.declared.verdicts.Reason.{Reason}
-use Rattle.sm_check_answers.specs.Said.{pairs_in}
-use Rattle.sm_check_answers.specs.Pairs.{IsWanted, AreAllThere}
-use Rattle.sm_check_answers.specs.Flows.{on_nodes, set_of_numbers, IsAllowedSet, first_level, second_level, TakenHolds, taken_matching}
-use Rattle.sm_check_answers.proofs.LinewiseLemmas.{no_end}
+use Rattle.sm_check_clauses.specs.declared.verdicts.Reason.{Reason}
+use Rattle.sm_check_clauses.specs.Said.{pairs_in}
+use Rattle.sm_check_clauses.specs.Pairs.{IsWanted, AreAllThere}
+use Rattle.sm_check_clauses.specs.Flows.{on_nodes, set_of_numbers, IsAllowedSet, first_level, second_level, TakenHolds, taken_matching}
+use Rattle.sm_check_clauses.proofs.LinewiseLemmas.{no_end}
 use Rattle.sm_law_agree.proofs.LineLemmas.{Held}
 use Rattle.sm_law_agree.proofs.SeatLemmas.{firsts_hold}
 use Rattle.sm_law_agree.proofs.FlowLemmas.{shown_on, on_nodes-shown_on, lines_back, front_nodes, here_nodes, new_edge, within_room, none_through, none_through_second, set_of_numbers-member_numbers, number_there}

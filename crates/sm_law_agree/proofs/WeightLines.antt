@@ -33,9 +33,9 @@ use Rattle.sm_check_forms.specs.declared.layouts.LayoutPart.{LayoutPart}
 use Rattle.sm_check_forms.specs.declared.layouts.LayoutPart.TheVariants.{Blocks}
 use Rattle.sm_check_forms.specs.Layouts.{later, behind, is_whole}
 use Rattle.sm_check_forms.specs.Forms.{opening_of}
-use Rattle.sm_check_answers.specs.Said.{first_in, rotation_in, rotations_in, needs_in, all_needs_in, flow_in, flows_in, second_flow_in, taken_in, value_in, second_value_in, pair_in, pairs_in}
-use Rattle.sm_check_answers.specs.SeatMatchings.{seat_places_in, first_of}
-use Rattle.sm_check_answers.proofs.AnswerLemmas.{said_same, said_one as said_with}
+use Rattle.sm_check_clauses.specs.Said.{first_in, rotation_in, rotations_in, needs_in, all_needs_in, flow_in, flows_in, second_flow_in, taken_in, value_in, second_value_in, pair_in, pairs_in}
+use Rattle.sm_check_clauses.specs.SeatMatchings.{seat_places_in, first_of}
+use Rattle.sm_check_clauses.proofs.AnswerLemmas.{said_same, said_one as said_with}
 use Rattle.sm_law_agree.proofs.LineLemmas.{has_word, has_other}
 use Rattle.sm_law_agree.proofs.FlowLemmas.{shown_on}
 use Rattle.sm_law_agree.proofs.BlockLemmas.{Whole, if_whole}

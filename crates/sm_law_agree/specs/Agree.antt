@@ -20,8 +20,8 @@ use Rattle.sm_answer_pairs.specs.RegretAnswer.{IsRegretAnswer}
 use Rattle.sm_answer_weight.specs.WeightAnswer.{IsWeightAnswer}
 use Rattle.sm_answer_given.specs.Chosen.{IsChosenAnswer}
 use Rattle.sm_answer_roommates.specs.RoomAnswer.{IsMatched, IsUnmatchable}
-use Rattle.sm_check_answers.specs.declared.verdicts.Verdict.TheVariants as verdict
-use Rattle.sm_check_answers.specs.Judging.{IsJudged}
+use Rattle.sm_check_clauses.specs.declared.verdicts.Verdict.TheVariants as verdict
+use Rattle.sm_check_clauses.specs.Judging.{IsJudged}
 
 -- the verdict on the texts of lines is yes, whatever the number of the first of them
 abbrev pub GetYes : Input → List LineData → Type 0

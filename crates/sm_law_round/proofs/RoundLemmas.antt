@@ -28,8 +28,8 @@ use Rattle.sm_answer_rotations.specs.Reduction.{IsReduction}
 use Rattle.sm_answer_rotations.specs.RotationAnswer.{IsRotationAnswer}
 use Rattle.sm_answer_given.specs.GivenText.{texts_from}
 use Rattle.sm_answer_given.specs.Chosen.{IsChosenAnswer}
-use Rattle.sm_check_answers.specs.Judging.{IsJudged}
-use Rattle.sm_check_answers.specs.declared.verdicts.Verdict.TheVariants as verdict
+use Rattle.sm_check_clauses.specs.Judging.{IsJudged}
+use Rattle.sm_check_clauses.specs.declared.verdicts.Verdict.TheVariants as verdict
 use Rattle.sm_law_agree.specs.Agree.{GetYes}
 use Rattle.sm_law_agree.proofs.SolveAgree.{solve_agrees}
 use Rattle.sm_law_agree.proofs.ReducedAgree.{reduced_agrees}

@@ -1,7 +1,7 @@
 //! Answers by hand, right ones and such as were changed, with their verdicts.
 
 use sm_cert::{CertFault, check};
-use sm_check_answers::{Reason, Verdict};
+use sm_check_clauses::{Reason, Verdict};
 use sm_instance::Input;
 use sm_reader::read_instance;
 use std::process::Abort;

@@ -16,8 +16,8 @@ use Rattle.sm_report.specs.Sound.{IsLineOf}
 use Rattle.sm_seats.proofs.LimitLaws.{first_too_many-none}
 use Rattle.sm_cert.specs.Checking.{HasFewSeats, HasTooManyAt}
 use Rattle.sm_answer_given.specs.GivenText.{texts_from}
-use Rattle.sm_check_answers.specs.Judging.{IsJudged, IsBadAnswerAt}
-use Rattle.sm_check_answers.specs.declared.verdicts.Verdict.{Verdict}
+use Rattle.sm_check_clauses.specs.Judging.{IsJudged, IsBadAnswerAt}
+use Rattle.sm_check_clauses.specs.declared.verdicts.Verdict.{Verdict}
 use Rattle.sm_tally.specs.Fold.{Shown}
 use Rattle.sm_words.specs.declared.jobs.Form.{Form}
 use Rattle.sm_words.specs.Jobs.{JobData, Check}

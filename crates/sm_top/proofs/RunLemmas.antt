@@ -29,8 +29,8 @@ use Rattle.sm_top.specs.Stops.{StopsBy, IsPlainStop}
 use Rattle.sm_tally.specs.Fold.{Shown}
 use Rattle.sm_make.specs.Made.{made_instance}
 use Rattle.sm_make.specs.declared.shape.Shape.{Shape}
-use Rattle.sm_check_answers.specs.declared.verdicts.Verdict.{Verdict}
-use Rattle.sm_check_answers.specs.declared.verdicts.Verdict.TheVariants as verdict
+use Rattle.sm_check_clauses.specs.declared.verdicts.Verdict.{Verdict}
+use Rattle.sm_check_clauses.specs.declared.verdicts.Verdict.TheVariants as verdict
 use Rattle.sm_top.specs.Checked.{status_by}
 use Rattle.sm_top.specs.Accepting.{reads_input, accepted, behind_text}
 use Rattle.sm_top.specs.Forms.{given_text, form_asked}

@@ -1,10 +1,10 @@
 -- What `check` answers.
 use Rattle.std.specs.Prelude.{◌≡◌, ℕ, List, [], ◌∷◌}
 use Rattle.sm_instance.specs.declared.inputs.Input.{Input}
-use Rattle.sm_check_answers.specs.Judging.{IsJudged, IsBadAnswerAt}
-use Rattle.sm_check_answers.specs.Verdicts.{number_of_reason}
-use Rattle.sm_check_answers.specs.declared.verdicts.Verdict.{Verdict}
-use Rattle.sm_check_answers.specs.declared.verdicts.Verdict.TheVariants as verdict
+use Rattle.sm_check_clauses.specs.Judging.{IsJudged, IsBadAnswerAt}
+use Rattle.sm_check_clauses.specs.Verdicts.{number_of_reason}
+use Rattle.sm_check_clauses.specs.declared.verdicts.Verdict.{Verdict}
+use Rattle.sm_check_clauses.specs.declared.verdicts.Verdict.TheVariants as verdict
 use Rattle.sm_report.specs.Heads.{HeadData}
 use Rattle.sm_report.specs.Lines.{LineData}
 use Rattle.sm_text.specs.declared.refusal.RefusalKind.TheVariants.{BadAnswer}

@@ -23,7 +23,7 @@ use crate::stop::Stop;
 use crate::writing::write;
 use sm_answer::{Lines, One, Printed, Then};
 use sm_cert::{CertFault, check};
-use sm_check_answers::Verdict;
+use sm_check_clauses::Verdict;
 use sm_instance::Input;
 use sm_io::Sink;
 use sm_reader::Read;

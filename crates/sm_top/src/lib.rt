@@ -21,6 +21,6 @@ mod stop;
 mod writing;
 
 pub use running::run;
-pub use sm_check_answers::Reason;
+pub use sm_check_clauses::Reason;
 pub use sm_words::{Form, Job, WordsFault, read_words};
 pub use status::Status;

@@ -3,7 +3,7 @@
 ghost use Rattle.std.specs.Prelude.{◌≡◌};
 ghost use Rattle.sm_top.specs.Statuses.{number_of_status};
 
-use sm_check_answers::Reason;
+use sm_check_clauses::Reason;
 use sm_text::RefusalKind;
 
 /// How a run ended.

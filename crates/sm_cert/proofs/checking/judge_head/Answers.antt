@@ -3,8 +3,8 @@ use Rattle.std.specs.Prelude.{IfOk}
 use Rattle.std.specs.Option.{option_map}
 use Rattle.sm_report.specs.Heads.{HeadData, head_of}
 use Rattle.sm_report.specs.Lines.{line_of}
-use Rattle.sm_check_answers.specs.Verdicts.{AtLine, IsVerdict}
-use Rattle.sm_check_answers.specs.Judging.{answer, Clauses}
+use Rattle.sm_check_clauses.specs.Verdicts.{AtLine, IsVerdict}
+use Rattle.sm_check_clauses.specs.Judging.{answer, Clauses}
 use Rattle.sm_cert.proofs.CheckLemmas.{cursor_each}
 use Rattle.sm_cert.proofs.OrderLemmas.{weight_order}
 use Rattle.sm_cert.proofs.checking.judge_head.Goals as goal

@@ -1,5 +1,5 @@
 use Rattle.std.proofs.Common.{sym, ◌∙◌}
-use Rattle.sm_check_answers.proofs.AnswerLemmas.{first_clause}
+use Rattle.sm_check_clauses.proofs.AnswerLemmas.{first_clause}
 use Rattle.sm_check_answers.proofs.VectorLemmas.{not_matching}
 use Rattle.sm_check_answers.proofs.tried.first_fault.Goals as goal
 

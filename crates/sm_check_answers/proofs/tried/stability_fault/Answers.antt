@@ -1,10 +1,10 @@
 use Rattle.std.proofs.Common.{◌∙◌, Option, sym, ap, subst}
 use Rattle.std.proofs.lemmas.List.{with_items_is}
-use Rattle.sm_check_answers.specs.Verdicts.{Finds}
+use Rattle.sm_check_clauses.specs.Verdicts.{Finds}
 use Rattle.sm_check_answers.specs.Tried.{StableHolds, AreLimits}
 use Rattle.sm_check_answers.specs.declared.tried.Tried.{Tried}
-use Rattle.sm_check_answers.specs.declared.verdicts.Reason.{Reason}
-use Rattle.sm_check_answers.specs.declared.verdicts.Reason.TheVariants as reason
+use Rattle.sm_check_clauses.specs.declared.verdicts.Reason.{Reason}
+use Rattle.sm_check_clauses.specs.declared.verdicts.Reason.TheVariants as reason
 use Rattle.sm_check_answers.proofs.tried.stability_fault.Goals as goal
 use Rattle.sm_check_answers.proofs.tried.stability_fault.Goals.{then-count-eq0, else-count-eq0}
 

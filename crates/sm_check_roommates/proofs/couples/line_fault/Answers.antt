@@ -1,6 +1,6 @@
 use Rattle.std.proofs.Common.{ℕ, List, subst}
-use Rattle.sm_check_answers.specs.Rooming.{IsFreeCouple}
-use Rattle.sm_check_answers.proofs.AnswerLemmas.{first_clause}
+use Rattle.sm_check_clauses.specs.Rooming.{IsFreeCouple}
+use Rattle.sm_check_clauses.proofs.AnswerLemmas.{first_clause}
 use Rattle.sm_check_roommates.proofs.CoupleLemmas.{couple_holds}
 use Rattle.sm_check_roommates.proofs.couples.line_fault.Goals as goal
 

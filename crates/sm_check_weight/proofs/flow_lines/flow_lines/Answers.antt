@@ -1,6 +1,6 @@
 use Rattle.std.proofs.Common.{ℕ, ◌≡◌, ◌++◌, ◌∷◌, [], ◌∙◌, sym, ap, refl, List, Option, None, Some, map, take, option_map}
 use Rattle.std.proofs.lemmas.List.{map_push}
-use Rattle.sm_check_answers.specs.Flows.{on_nodes}
+use Rattle.sm_check_clauses.specs.Flows.{on_nodes}
 use Rattle.sm_report.specs.Lines.{line_of}
 use Rattle.sm_theory.specs.declared.flow_lines.FlowLine.{FlowLine}
 use Rattle.sm_check_weight.specs.FlowClauses.{amount_in, flow_line, flows_of}

@@ -1,6 +1,6 @@
 use Rattle.std.proofs.Common.{◌≡◌, map, take}
 use Rattle.sm_report.specs.Lines.{line_of}
-use Rattle.sm_check_answers.specs.Flows.{on_nodes}
+use Rattle.sm_check_clauses.specs.Flows.{on_nodes}
 use Rattle.sm_check_weight.specs.FlowClauses.{flows_of}
 use Rattle.sm_check_weight.proofs.flow_lines.flow_lines.Given as goal
 

@@ -3,7 +3,7 @@ use Rattle.std.specs.declared.alloc.Global.{Global}
 use Rattle.std.proofs.lemmas.List.{map_push}
 use Rattle.sm_lists.specs.Rows.{rows_of}
 use Rattle.sm_report.specs.Lines.{line_of}
-use Rattle.sm_check_answers.specs.Said.{needs_in, all_needs_in}
+use Rattle.sm_check_clauses.specs.Said.{needs_in, all_needs_in}
 use Rattle.sm_check_weight.proofs.SaidLemmas.{next_said, next_unsaid, needs_in-none}
 use Rattle.sm_check_weight.proofs.gains.all_needs.Goals as goal
 use Rattle.sm_check_weight.proofs.gains.all_needs.Goals.{in-Needs+in_ok-from_zero+in_ok-push, in_default}

@@ -3,8 +3,8 @@ use Rattle.std.proofs.lemmas.List.{take-map}
 use Rattle.sm_check_net.specs.CheckedNets.{net_of_parts, NeedsAreOf}
 use Rattle.sm_seats.specs.SeatMarket.{seat_market}
 use Rattle.sm_report.specs.Lines.{LineData, line_of}
-use Rattle.sm_check_answers.specs.Said.{rotations_in}
-use Rattle.sm_check_answers.specs.Flows.{net_in}
+use Rattle.sm_check_clauses.specs.Said.{rotations_in}
+use Rattle.sm_check_clauses.specs.Flows.{net_in}
 use Rattle.sm_check_weight.specs.Kept.{HasWholePoset}
 use Rattle.sm_check_weight.proofs.BeginLemmas.{first_begun, second_begun, claim_begun}
 use Rattle.sm_check_weight.proofs.judging.claim_of.Goals as goal

@@ -13,8 +13,8 @@ use Rattle.sm_seats.specs.Seating.{Seating}
 use Rattle.sm_seats.specs.Correspondence.{leveled}
 use Rattle.sm_seats.proofs.MarketLaws.{length-proposers}
 use Rattle.sm_report.specs.Lines.{line_of}
-use Rattle.sm_check_answers.specs.Said.{rotations_in}
-use Rattle.sm_check_answers.specs.Walks.{AreChainMoves}
+use Rattle.sm_check_clauses.specs.Said.{rotations_in}
+use Rattle.sm_check_clauses.specs.Walks.{AreChainMoves}
 use Rattle.sm_check_weight.proofs.MoveLemmas.{can_be_weighed}
 use Rattle.sm_check_weight.proofs.NetLemmas.{levels_long, forced_below, forbidden_below, few_rotations, first_has_levels, needs_rise, numbers_below, needs_long, needs_are, net_made}
 use Rattle.sm_check_weight.proofs.judging.net_of.Goals as goal

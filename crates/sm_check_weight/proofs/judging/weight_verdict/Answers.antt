@@ -3,11 +3,11 @@ use Rattle.std.specs.Prelude.{All, slice_index_or}
 use Rattle.std.proofs.lemmas.List.{length-map}
 use Rattle.sm_report.specs.Heads.{HeadData}
 use Rattle.sm_report.specs.Lines.{LineData, line_of}
-use Rattle.sm_check_answers.specs.Judges.{IsOwnLine}
-use Rattle.sm_check_answers.specs.Judging.{answer}
-use Rattle.sm_check_answers.specs.Flows.{WeightHolds}
-use Rattle.sm_check_answers.specs.Walking.{FindsOrKeeps}
-use Rattle.sm_check_answers.proofs.AnswerLemmas.{hold_more, verdict_no, verdict_yes}
+use Rattle.sm_check_clauses.specs.Judges.{IsOwnLine}
+use Rattle.sm_check_clauses.specs.Judging.{answer}
+use Rattle.sm_check_clauses.specs.Flows.{WeightHolds}
+use Rattle.sm_check_clauses.specs.Walking.{FindsOrKeeps}
+use Rattle.sm_check_clauses.proofs.AnswerLemmas.{hold_more, verdict_no, verdict_yes}
 use Rattle.sm_check_weight.specs.Kept.{IsJudgeOf}
 use Rattle.sm_check_weight.specs.Order.{AreNeedsInOrder}
 use Rattle.sm_check_weight.proofs.JudgeLemmas.{stands_at, to_own, of_own}

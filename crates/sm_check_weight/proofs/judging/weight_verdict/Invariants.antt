@@ -1,8 +1,8 @@
 use Rattle.std.proofs.Common.{map}
 use Rattle.sm_report.specs.Heads.{HeadData}
 use Rattle.sm_report.specs.Lines.{line_of}
-use Rattle.sm_check_answers.specs.Judging.{answer, Clauses}
-use Rattle.sm_check_answers.proofs.AnswerLemmas.{HoldAbove}
+use Rattle.sm_check_clauses.specs.Judging.{answer, Clauses}
+use Rattle.sm_check_clauses.proofs.AnswerLemmas.{HoldAbove}
 use Rattle.sm_check_weight.specs.Kept.{IsJudgeOf}
 use Rattle.sm_check_weight.proofs.judging.weight_verdict.Given as goal
 

@@ -1,6 +1,6 @@
 use Rattle.std.proofs.Common.{◌≡◌, ◌≢◌, ℕ, ◌+◌, ◌-◌, ◌<◌, ◌++◌, ◌∷◌, [], ◌∙◌, arith, rules, sym, ap, Bool, true, false, List, get_or, replicate, set, take}
 use Rattle.std.proofs.lemmas.List.{take_more}
-use Rattle.sm_check_answers.specs.Flows.{set_of_numbers}
+use Rattle.sm_check_clauses.specs.Flows.{set_of_numbers}
 use Rattle.sm_check_weight.proofs.SetLemmas.{set_none, set_same, set_more}
 use Rattle.sm_check_weight.proofs.taken.set_of.Goals as goal
 use Rattle.sm_check_weight.proofs.taken.set_of.Goals.{then-number-gt0+then-number-size, else-number-gt0, else-number-gt0-via-then-number-gt0+else-number-size, else-number-gt0-via-else-number-gt0}

@@ -1,5 +1,5 @@
 use Rattle.std.proofs.Common.{◌≡◌, take}
-use Rattle.sm_check_answers.specs.Flows.{set_of_numbers}
+use Rattle.sm_check_clauses.specs.Flows.{set_of_numbers}
 use Rattle.sm_check_weight.proofs.taken.set_of.Given as goal
 
 -- the set by the numbers so far

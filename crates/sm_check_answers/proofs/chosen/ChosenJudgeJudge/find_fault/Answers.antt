@@ -3,9 +3,9 @@ use Rattle.sm_instance.specs.Matching.{IsAssignment}
 use Rattle.sm_instance.specs.Stable.{IsStable}
 use Rattle.std.proofs.lemmas.Bool.{false≢true}
 use Rattle.sm_report.specs.Lines.{LineData, line_of}
-use Rattle.sm_check_answers.specs.declared.verdicts.Reason.TheVariants as reason
-use Rattle.sm_check_answers.specs.Pairs.{IsWanted, AreAllThere}
-use Rattle.sm_check_answers.specs.Said.{pairs_in, lefts_in, rights_in}
+use Rattle.sm_check_clauses.specs.declared.verdicts.Reason.TheVariants as reason
+use Rattle.sm_check_clauses.specs.Pairs.{IsWanted, AreAllThere}
+use Rattle.sm_check_clauses.specs.Said.{pairs_in, lefts_in, rights_in}
 use Rattle.sm_check_answers.proofs.ChosenLemmas.{wanted_assigned, to_clauses, of_clauses, left_holds, right_holds, pair_holds, end_before, end_holds, left_kept, right_kept, pair_kept, other_kept, others_hold, others_say, wanted_is}
 use Rattle.sm_check_answers.proofs.chosen.ChosenJudgeJudge.find_fault.Goals as goal
 

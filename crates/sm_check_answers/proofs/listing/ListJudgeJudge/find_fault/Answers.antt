@@ -1,7 +1,7 @@
 use Rattle.std.proofs.Common.{◌∙◌, ap, arith, refl}
 use Rattle.std.specs.Option.{option_map}
 use Rattle.sm_report.specs.Lines.{line_of}
-use Rattle.sm_check_answers.specs.declared.verdicts.Reason.TheVariants as reason
+use Rattle.sm_check_clauses.specs.declared.verdicts.Reason.TheVariants as reason
 use Rattle.sm_check_answers.specs.Listing.{last_or}
 use Rattle.sm_check_answers.proofs.TriedLemmas.{own_tried}
 use Rattle.sm_check_answers.proofs.ListingLemmas.{vector_judged, more_judged, other_judged}

@@ -1,7 +1,7 @@
 use Rattle.std.proofs.Common.{sym, ◌∙◌}
 use Rattle.std.proofs.lemmas.Bool.{false≢true}
 use Rattle.sm_report.specs.Lines.{line_of}
-use Rattle.sm_check_answers.specs.Said.{firsts_in, lasts_in}
+use Rattle.sm_check_clauses.specs.Said.{firsts_in, lasts_in}
 use Rattle.sm_check_answers.proofs.ReducedLemmas.{first_blocked, last_blocked, first_not_best, last_not_best, lists_begin, lists_go}
 use Rattle.sm_check_answers.proofs.reduced.ReducedJudge.behind_fault.Goals as goal
 

@@ -3,10 +3,10 @@ use Rattle.std.proofs.lemmas.Result.{IfOk-weaker}
 use Rattle.sm_report.specs.Lines.{line_of}
 use Rattle.sm_market.specs.Lists.{Lists}
 use Rattle.sm_seats.proofs.MarketLaws.{length-proposers}
-use Rattle.sm_check_answers.specs.declared.verdicts.Reason.TheVariants as reason
-use Rattle.sm_check_answers.specs.Said.{firsts_in, lasts_in}
+use Rattle.sm_check_clauses.specs.declared.verdicts.Reason.TheVariants as reason
+use Rattle.sm_check_clauses.specs.Said.{firsts_in, lasts_in}
 use Rattle.sm_check_answers.proofs.ReducedLemmas.{head_line, first_line, last_line, last_tried, last_begins, lists_go, no_seat_line}
-use Rattle.sm_check_answers.proofs.AnswerLemmas.{kept_as}
+use Rattle.sm_check_clauses.proofs.AnswerLemmas.{kept_as}
 use Rattle.sm_check_answers.proofs.reduced.ReducedJudgeJudge.find_fault.Goals as goal
 
 pub add-requires-clause-proposer : goal.add-requires-clause-proposer

@@ -1,9 +1,9 @@
 use Rattle.std.proofs.Common.{◌∙◌, ◌++◌, ◌∷◌, [], sym, ap, subst}
 use Rattle.std.specs.Option.{option_or}
 use Rattle.sm_report.specs.Lines.{line_of}
-use Rattle.sm_check_answers.specs.Vectors.{RegretClauses}
+use Rattle.sm_check_clauses.specs.Vectors.{RegretClauses}
 use Rattle.sm_check_answers.specs.Regrets.{AreRegretsKept}
-use Rattle.sm_check_answers.specs.Walking.{FindsOrKeeps}
+use Rattle.sm_check_clauses.specs.Walking.{FindsOrKeeps}
 use Rattle.sm_check_answers.proofs.RegretLemmas.{regret_judged}
 use Rattle.sm_check_answers.proofs.regret.RegretJudgeJudge.find_fault.Goals as goal
 

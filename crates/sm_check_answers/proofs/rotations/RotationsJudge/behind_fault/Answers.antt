@@ -1,4 +1,4 @@
-use Rattle.sm_check_answers.proofs.WalkLemmas.{begun}
+use Rattle.sm_check_clauses.proofs.WalkLemmas.{begun}
 use Rattle.sm_check_answers.proofs.rotations.RotationsJudge.behind_fault.Goals as goal
 
 pub find_fault-requires-clause-known : goal.find_fault-requires-clause-known

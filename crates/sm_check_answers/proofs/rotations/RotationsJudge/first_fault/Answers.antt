@@ -1,8 +1,8 @@
 use Rattle.std.proofs.Common.{length, arith, ap}
 use Rattle.sm_market.specs.Lists.{Lists}
 use Rattle.sm_seats.proofs.MarketLaws.{length-proposers}
-use Rattle.sm_check_answers.specs.Said.{firsts_in}
-use Rattle.sm_check_answers.proofs.WalkLemmas.{head_line, first_line}
+use Rattle.sm_check_clauses.specs.Said.{firsts_in}
+use Rattle.sm_check_clauses.proofs.WalkLemmas.{head_line, first_line}
 use Rattle.sm_check_answers.proofs.rotations.RotationsJudge.first_fault.Goals as goal
 
 pub add-requires-clause-proposer : goal.add-requires-clause-proposer

@@ -1,4 +1,4 @@
-use Rattle.sm_check_answers.proofs.WalkLemmas.{none_rotated}
+use Rattle.sm_check_clauses.proofs.WalkLemmas.{none_rotated}
 use Rattle.sm_check_answers.proofs.rotations.RotationsJudge.moves.Goals as goal
 
 pub returns-in-None : goal.returns-in-None

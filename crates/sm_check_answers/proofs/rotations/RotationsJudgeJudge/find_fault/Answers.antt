@@ -1,5 +1,5 @@
 use Rattle.std.proofs.lemmas.Result.{IfOk-weaker}
-use Rattle.sm_check_answers.proofs.AnswerLemmas.{kept_as}
+use Rattle.sm_check_clauses.proofs.AnswerLemmas.{kept_as}
 use Rattle.sm_check_answers.proofs.rotations.RotationsJudgeJudge.find_fault.Goals as goal
 
 pub returns-in-Some-clause-found : goal.returns-in-Some-clause-found

@@ -5,8 +5,8 @@ use Rattle.sm_seats.proofs.MarketLaws.{length-proposers}
 use Rattle.sm_seats.specs.SeatMarket.{seat_market}
 use Rattle.sm_report.specs.Lines.{LineData, line_of}
 use Rattle.sm_check_forms.specs.Seats.{seat_numbers}
-use Rattle.sm_check_answers.specs.Said.{proposer_lists_in, reviewer_lists_in}
-use Rattle.sm_check_answers.specs.Chain.{owners}
+use Rattle.sm_check_clauses.specs.Said.{proposer_lists_in, reviewer_lists_in}
+use Rattle.sm_check_clauses.specs.Chain.{owners}
 use Rattle.sm_check_answers.specs.ListsKept.{AreTimes}
 use Rattle.sm_check_answers.proofs.SeatListLemmas.{proposers_once, seats_once, lists_fail, proposer_right, reviewer_right, no_list, no_list_in}
 use Rattle.sm_check_answers.proofs.seat_lists.SeatLists.find_fault.Goals as goal

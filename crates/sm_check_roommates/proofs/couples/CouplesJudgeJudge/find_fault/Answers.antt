@@ -1,7 +1,7 @@
 use Rattle.std.proofs.Common.{◌≡◌, ℕ, ◌++◌, ◌∷◌, [], List, Option, length, sym, ◌∙◌, subst}
 use Rattle.sm_lists.proofs.ResultLemmas.{IfOk-both, take-append_at_length}
 use Rattle.sm_report.specs.Lines.{line_of}
-use Rattle.sm_check_answers.specs.Said.{pairs_in}
+use Rattle.sm_check_clauses.specs.Said.{pairs_in}
 use Rattle.sm_check_roommates.specs.CouplesKept.{AreCouplesHeld}
 use Rattle.sm_check_roommates.proofs.CoupleLemmas.{couples_judged}
 use Rattle.sm_check_roommates.proofs.couples.CouplesJudgeJudge.find_fault.Goals as goal

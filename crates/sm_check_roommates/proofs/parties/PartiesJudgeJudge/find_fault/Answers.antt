@@ -1,10 +1,10 @@
 use Rattle.std.proofs.Common.{ℕ, ◌++◌, ◌∷◌, [], refl, sym, subst}
 use Rattle.std.proofs.lemmas.Result.{IfOk-weaker}
 use Rattle.sm_report.specs.Lines.{LineData, line_of}
-use Rattle.sm_check_answers.specs.Said.{parties_in}
-use Rattle.sm_check_answers.specs.Rooming.{PartiesHold}
+use Rattle.sm_check_clauses.specs.Said.{parties_in}
+use Rattle.sm_check_clauses.specs.Rooming.{PartiesHold}
 use Rattle.sm_check_roommates.specs.PartiesKept.{ArePartiesHeld}
-use Rattle.sm_check_answers.proofs.AnswerLemmas.{finds_keeping}
+use Rattle.sm_check_clauses.proofs.AnswerLemmas.{finds_keeping}
 use Rattle.sm_check_roommates.proofs.PartyLemmas.{party_fails, party_holds, others_hold, nothing_said, kept_more, kept_same}
 use Rattle.sm_check_roommates.proofs.parties.PartiesJudgeJudge.find_fault.Goals as goal
 

@@ -2,7 +2,7 @@ use Rattle.std.proofs.Common.{Option, None, Some, refl, sym, take, ◌∙◌}
 use Rattle.std.specs.Prelude.{MatchOption}
 use Rattle.std.proofs.lemmas.Bool.{false≢true}
 use Rattle.sm_check_net.specs.CheckedNets.{NetParts, net_of_parts}
-use Rattle.sm_check_answers.specs.Pairs.{AreAllThere}
+use Rattle.sm_check_clauses.specs.Pairs.{AreAllThere}
 use Rattle.sm_check_weight.proofs.EndLemmas.{with_net, with_no_net, end_not_there, end_not_least, end_holds}
 use Rattle.sm_check_weight.proofs.claims.Claim.end_fault.Goals as goal
 

@@ -2,11 +2,11 @@ use Rattle.std.proofs.Common.{rules, FitsSigned, w64, ℤ, ◌∙◌, ◌++◌, 
 use Rattle.std.proofs.lemmas.Int.{to_z-of_z}
 use Rattle.std.proofs.lemmas.Result.{IfOk-weaker}
 use Rattle.sm_report.specs.Lines.{LineData, line_of}
-use Rattle.sm_check_answers.specs.Verdicts.{Finds}
-use Rattle.sm_check_answers.proofs.AnswerLemmas.{kept_as}
+use Rattle.sm_check_clauses.specs.Verdicts.{Finds}
+use Rattle.sm_check_clauses.proofs.AnswerLemmas.{kept_as}
 use Rattle.sm_check_weight.specs.ClaimClauses.{TotalHolds, SecondTotalHolds}
 use Rattle.sm_check_weight.specs.Kept.{ClaimHolds, IsClaimOf}
-use Rattle.sm_check_answers.specs.Said.{pairs_in}
+use Rattle.sm_check_clauses.specs.Said.{pairs_in}
 use Rattle.sm_check_net.specs.CheckedNets.{net_of_parts}
 use Rattle.sm_check_weight.proofs.EndLemmas.{with_net}
 use Rattle.sm_check_weight.specs.FlowClauses.{flow_line}

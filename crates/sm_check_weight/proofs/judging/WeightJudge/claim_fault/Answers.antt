@@ -3,9 +3,9 @@ use Rattle.std.specs.Prelude.{slice_index_or}
 use Rattle.std.proofs.lemmas.Result.{IfOk-weaker}
 use Rattle.sm_report.specs.Heads.{HeadData}
 use Rattle.sm_report.specs.Lines.{LineData, line_of}
-use Rattle.sm_check_answers.specs.Judges.{IsOwnLine}
-use Rattle.sm_check_answers.specs.Judging.{answer}
-use Rattle.sm_check_answers.specs.Walking.{FindsOrKeeps}
+use Rattle.sm_check_clauses.specs.Judges.{IsOwnLine}
+use Rattle.sm_check_clauses.specs.Judging.{answer}
+use Rattle.sm_check_clauses.specs.Walking.{FindsOrKeeps}
 use Rattle.sm_check_weight.specs.Kept.{ClaimHolds, HasClaim, IsClaimOf, IsNextLine}
 use Rattle.sm_check_weight.proofs.JudgeLemmas.{read_is, stands_at, next_at, claim_kept}
 use Rattle.sm_check_weight.proofs.judging.WeightJudge.claim_fault.Goals as goal

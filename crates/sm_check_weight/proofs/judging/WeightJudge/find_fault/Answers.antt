@@ -3,12 +3,12 @@ use Rattle.std.specs.Prelude.{slice_index_or}
 use Rattle.std.proofs.lemmas.Result.{IfOk-weaker}
 use Rattle.sm_report.specs.Heads.{HeadData}
 use Rattle.sm_report.specs.Lines.{LineData, line_of}
-use Rattle.sm_check_answers.specs.Judges.{IsOwnLine}
-use Rattle.sm_check_answers.specs.Judging.{answer}
-use Rattle.sm_check_answers.specs.Said.{is_up_to_rotations}
-use Rattle.sm_check_answers.specs.Verdicts.{Finds}
-use Rattle.sm_check_answers.specs.Walks.{IsChainAt}
-use Rattle.sm_check_answers.proofs.AnswerLemmas.{line_right, finds_keeping}
+use Rattle.sm_check_clauses.specs.Judges.{IsOwnLine}
+use Rattle.sm_check_clauses.specs.Judging.{answer}
+use Rattle.sm_check_clauses.specs.Said.{is_up_to_rotations}
+use Rattle.sm_check_clauses.specs.Verdicts.{Finds}
+use Rattle.sm_check_clauses.specs.Walks.{IsChainAt}
+use Rattle.sm_check_clauses.proofs.AnswerLemmas.{line_right, finds_keeping}
 use Rattle.sm_check_weight.specs.Kept.{ClaimHolds}
 use Rattle.sm_check_weight.proofs.ClauseLemmas.{chain_found, weight_found}
 use Rattle.sm_check_weight.proofs.GroundLemmas.{own_too, walked, grounded}

@@ -1,8 +1,8 @@
 use Rattle.std.proofs.Common.{◌≡◌, rules, sym, subst, [], length}
 use Rattle.sm_theory.specs.ClosedSets.{IsClosed}
 use Rattle.sm_seats.specs.SeatMarket.{seat_market}
-use Rattle.sm_check_answers.specs.Said.{rotations_in}
-use Rattle.sm_check_answers.specs.Flows.{set_of_numbers}
+use Rattle.sm_check_clauses.specs.Said.{rotations_in}
+use Rattle.sm_check_clauses.specs.Flows.{set_of_numbers}
 use Rattle.sm_check_weight.proofs.EmptyLemmas.{walk_size, empty_closed, set_made}
 use Rattle.sm_check_weight.proofs.taken.Taken.none.Goals as goal
 

@@ -1,8 +1,8 @@
 use Rattle.std.proofs.Common.{◌≡◌, rules, arith, refl, length}
 use Rattle.std.proofs.lemmas.Bool.{false≢true}
 use Rattle.sm_seats.specs.SeatMarket.{seat_market}
-use Rattle.sm_check_answers.specs.Said.{rotations_in}
-use Rattle.sm_check_answers.specs.Flows.{set_of_numbers}
+use Rattle.sm_check_clauses.specs.Said.{rotations_in}
+use Rattle.sm_check_clauses.specs.Flows.{set_of_numbers}
 use Rattle.sm_check_weight.proofs.EmptyLemmas.{allowed_closed, allowed_matching, is_allowed, set_made, set_size}
 use Rattle.sm_check_weight.proofs.taken.Taken.of.Goals as goal
 

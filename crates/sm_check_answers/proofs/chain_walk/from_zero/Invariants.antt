@@ -1,6 +1,0 @@
-use Rattle.std.proofs.Common.{◌≡◌, map, take}
-use Rattle.std.specs.Prelude.{pred}
-use Rattle.sm_check_answers.proofs.chain_walk.from_zero.Given as goal
-
-abbrev pub invariant-loop-k : goal.invariant-loop-k
-invariant-loop-k l = l.less.items ≡ map pred (take l.k l.numbers)

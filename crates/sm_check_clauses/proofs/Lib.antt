@@ -1,0 +1,6 @@
+pub mod JudgingLemmas
+pub mod LinewiseLemmas
+pub mod SeatPairLemmas
+pub mod WalkLemmas
+pub mod AnswerLemmas
+pub mod PairLemmas

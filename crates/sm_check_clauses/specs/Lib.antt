@@ -1,0 +1,15 @@
+pub mod Verdicts
+pub mod Said
+pub mod Pairs
+pub mod SeatMatchings
+pub mod Chain
+pub mod Flows
+pub mod Vectors
+pub mod Rooming
+pub mod Judging
+pub mod Judges
+pub mod Walking
+pub mod PairsKept
+pub mod SeatPairsKept
+pub mod Walks
+pub mod WalksKept

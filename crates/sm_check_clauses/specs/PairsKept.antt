@@ -1,0 +1,24 @@
+-- What is kept of the pairs that an answer has written so far.
+use Rattle.std.specs.Prelude.{◌≡◌, ℕ, ◌<◌, ◌++◌, ◌∷◌, [], Bool, true, false, List, length}
+use Rattle.sm_instance.specs.Written.{Written}
+use Rattle.sm_instance.specs.Matching.{load}
+use Rattle.sm_pairs.specs.Holding.{IsHolding}
+use Rattle.sm_pairs.specs.declared.holding.Holding.{Holding}
+use Rattle.sm_pairs.specs.Held.{places_in}
+use Rattle.sm_check_clauses.specs.Pairs.{times_second, IsFree}
+
+-- they make this matching
+pub record ArePairsHeld (w : Written) (pairs : List (ℕ × ℕ)) (holding : Holding) : Type 0 where
+  pub held : IsHolding w holding
+  pub places : holding.matching.places.items ≡ places_in w pairs
+  pub seconds : (r : ℕ) → r < length w.reviewers → times_second pairs r ≡ load w holding.matching.places.items r
+
+-- one more pair may stand behind them, and is kept too; or it may not
+pub record HasJoined (w : Written) (pairs : List (ℕ × ℕ)) (pair : ℕ × ℕ) (after : Holding) : Type 0 where
+  pub free : IsFree w pairs pair
+  pub held : ArePairsHeld w (pairs ++ pair ∷ []) after
+
+-- true says that the pair is kept, and false that it may not stand there
+abbrev pub Joins : Written → List (ℕ × ℕ) → ℕ × ℕ → Holding → Bool → Type 0
+Joins w pairs pair after true = HasJoined w pairs pair after
+Joins w pairs pair after false = ¬ IsFree w pairs pair
