@@ -7,7 +7,7 @@ ghost use Rattle.sm_report.specs.Heads.{head_of};
 ghost use Rattle.sm_report.specs.Lines.{line_of};
 ghost use Rattle.sm_check_forms.specs.Keywords.{is_same};
 ghost use Rattle.sm_check_forms.specs.Layouts.{behind, keyword_at, later, is_empty};
-ghost use Rattle.sm_check_forms.specs.Forms.{opening_of, number_in, layouts_of, layouts_of_two, layouts_of_room, first_turn, solve_layout, parties_layout, reduced_layout, rotations_layout, list_layout, regret_layout, weight_layout, given_layout};
+ghost use Rattle.sm_check_forms.specs.Forms.{opening_of, number_in, layouts_of, layouts_of_two, layouts_of_room};
 ghost use Rattle.sm_check_forms.specs.Lefts.{IsFit, IsTurn, AreTurns, IsTakenAt, IsRunning, AreRunning, layout_left, layouts_left};
 
 use sm_instance::{Input, Instance};
@@ -328,17 +328,21 @@ fn places_of_two(alloc: Global, instance: &Instance, head: &Head) -> Result<Plac
     ensures running { IfOk result (λ places. AreRunning places) }
 {
     match head {
-        Head::Solve(_) => Ok(only(alloc, solve_layout(alloc)?)),
-        Head::Reduced => Ok(only(alloc, reduced_layout(alloc)?)),
-        Head::Rotations => Ok(only(alloc, rotations_layout(alloc)?)),
+        Head::Solve(_) => only(alloc, &SOLVE),
+        Head::Reduced => only(alloc, &REDUCED),
+        Head::Rotations => only(alloc, &ROTATIONS),
         Head::List(_, _) => Ok(Places {
-            one: list_layout(alloc, Keyword::End)?,
-            other: list_layout(alloc, Keyword::More)?,
+            one: laid(alloc, &LIST_TO_END)?,
+            other: laid(alloc, &LIST_IN_PART)?,
         }),
-        Head::Regret => Ok(only(alloc, regret_layout(alloc)?)),
-        Head::Weight(by) => Ok(only(alloc, weight_layout(alloc, has_two_levels(instance, *by))?)),
-        Head::Meet => Ok(only(alloc, given_layout(alloc)?)),
-        Head::Join => Ok(only(alloc, given_layout(alloc)?)),
+        Head::Regret => only(alloc, &REGRET),
+        Head::Weight(by) => if has_two_levels(instance, *by) {
+            only(alloc, &WEIGHT_IN_TWO)
+        } else {
+            only(alloc, &WEIGHT)
+        },
+        Head::Meet => only(alloc, &GIVEN),
+        Head::Join => only(alloc, &GIVEN),
         Head::Pairs => Ok(Places::none(alloc)),
         Head::Survey(_) => Ok(Places::none(alloc)),
         Head::Check => Ok(Places::none(alloc)),
@@ -355,166 +359,130 @@ fn places_of_room(alloc: Global, head: &Head) -> Result<Places, AllocError>
 {
     match head {
         Head::Solve(_) => Ok(Places {
-            one: solve_layout(alloc)?,
-            other: parties_layout(alloc)?,
+            one: laid(alloc, &SOLVE)?,
+            other: laid(alloc, &PARTIES)?,
         }),
         _ => Ok(Places::none(alloc)),
     }
 }
 
-/// A single layout.
-fn only(alloc: Global, layout: Layout) -> Places
-    requires { IsRunning layout }
-    ensures left { layouts_left result ≡ layout_left layout }
-    ensures running { AreRunning result }
+/// A single layout, of these parts.
+fn only(alloc: Global, parts: &[LayoutPart]) -> Result<Places, AllocError>
+    requires { AreTurns parts.now }
+    ensures left { IfOk result (λ places. layouts_left places ≡ parts.now ∷ []) }
+    ensures running { IfOk result (λ places. AreRunning places) }
 {
-    Places {
-        one: layout,
+    Ok(Places {
+        one: laid(alloc, parts)?,
         other: Layout::none(alloc),
-    }
+    })
 }
 
 /// The layout of a matching.
-fn solve_layout(alloc: Global) -> Result<Layout, AllocError>
-    ensures left { IfOk result (λ layout. layout_left layout ≡ solve_layout ∷ []) }
-    ensures running { IfOk result (λ layout. IsRunning layout) }
-{
-    Ok(Layout::of(vec![in alloc;
-        LayoutPart::Many(Keyword::Pair),
-        LayoutPart::One(Keyword::End),
-    ]?))
-}
+static SOLVE: [LayoutPart; 2] = [
+    LayoutPart::Many(Keyword::Pair),
+    LayoutPart::One(Keyword::End),
+];
 
 /// The layout of parties.
-fn parties_layout(alloc: Global) -> Result<Layout, AllocError>
-    ensures left { IfOk result (λ layout. layout_left layout ≡ parties_layout ∷ []) }
-    ensures running { IfOk result (λ layout. IsRunning layout) }
-{
-    Ok(Layout::of(vec![in alloc;
-        LayoutPart::One(Keyword::Nothing),
-        LayoutPart::Many(Keyword::Party),
-        LayoutPart::One(Keyword::End),
-    ]?))
-}
+static PARTIES: [LayoutPart; 3] = [
+    LayoutPart::One(Keyword::Nothing),
+    LayoutPart::Many(Keyword::Party),
+    LayoutPart::One(Keyword::End),
+];
 
 /// The layout of `reduced`.
-fn reduced_layout(alloc: Global) -> Result<Layout, AllocError>
-    ensures left { IfOk result (λ layout. layout_left layout ≡ reduced_layout ∷ []) }
-    ensures running { IfOk result (λ layout. IsRunning layout) }
-{
-    Ok(Layout::of(vec![in alloc;
-        LayoutPart::Many(Keyword::First),
-        LayoutPart::Many(Keyword::Last),
-        LayoutPart::Many(Keyword::Proposer),
-        LayoutPart::Many(Keyword::Reviewer),
-        LayoutPart::One(Keyword::End),
-    ]?))
-}
+static REDUCED: [LayoutPart; 5] = [
+    LayoutPart::Many(Keyword::First),
+    LayoutPart::Many(Keyword::Last),
+    LayoutPart::Many(Keyword::Proposer),
+    LayoutPart::Many(Keyword::Reviewer),
+    LayoutPart::One(Keyword::End),
+];
 
 /// The layout of `rotations`.
-fn rotations_layout(alloc: Global) -> Result<Layout, AllocError>
-    ensures left { IfOk result (λ layout. layout_left layout ≡ rotations_layout ∷ []) }
-    ensures running { IfOk result (λ layout. IsRunning layout) }
-{
-    Ok(Layout::of(vec![in alloc;
-        LayoutPart::Many(Keyword::First),
-        LayoutPart::Blocks(first_turn(2)),
-        LayoutPart::One(Keyword::End),
-    ]?))
-}
-
-/// The layout of `list` with this last line.
-fn list_layout(alloc: Global, last: Keyword) -> Result<Layout, AllocError>
-    ensures left { IfOk result (λ layout. layout_left layout ≡ list_layout last ∷ []) }
-    ensures running { IfOk result (λ layout. IsRunning layout) }
-{
-    Ok(Layout::of(vec![in alloc; LayoutPart::Many(Keyword::Vector), LayoutPart::One(last)]?))
-}
-
-/// The layout of `regret`.
-fn regret_layout(alloc: Global) -> Result<Layout, AllocError>
-    ensures left { IfOk result (λ layout. layout_left layout ≡ regret_layout ∷ []) }
-    ensures running { IfOk result (λ layout. IsRunning layout) }
-{
-    Ok(Layout::of(vec![in alloc;
-        LayoutPart::One(Keyword::Regret),
-        LayoutPart::Many(Keyword::Pair),
-        LayoutPart::One(Keyword::End),
-    ]?))
-}
-
-/// The layout of `weight`, in two levels or in one.
-fn weight_layout(alloc: Global, two: bool) -> Result<Layout, AllocError>
-    ensures left { IfOk result (λ layout. layout_left layout ≡ weight_layout two ∷ []) }
-    ensures running { IfOk result (λ layout. IsRunning layout) }
-{
-    if two {
-        weight_layout_of_two(alloc)
-    } else {
-        weight_layout_of_one(alloc)
-    }
-}
-
-/// The layout of `weight` in two levels.
-fn weight_layout_of_two(alloc: Global) -> Result<Layout, AllocError>
-    ensures left { IfOk result (λ layout. layout_left layout ≡ weight_layout true ∷ []) }
-    ensures running { IfOk result (λ layout. IsRunning layout) }
-{
-    Ok(Layout::of(vec![in alloc;
-        LayoutPart::Many(Keyword::First),
-        LayoutPart::Blocks(first_turn(4)),
-        LayoutPart::Many(Keyword::Flow),
-        LayoutPart::Many(Keyword::SecondFlow),
-        LayoutPart::One(Keyword::Taken),
-        LayoutPart::One(Keyword::Value),
-        LayoutPart::One(Keyword::Cut),
-        LayoutPart::One(Keyword::Total),
-        LayoutPart::One(Keyword::SecondValue),
-        LayoutPart::One(Keyword::SecondCut),
-        LayoutPart::One(Keyword::SecondTotal),
-        LayoutPart::Many(Keyword::Pair),
-        LayoutPart::One(Keyword::End),
-    ]?))
-}
-
-/// The layout of `weight` in one level.
-fn weight_layout_of_one(alloc: Global) -> Result<Layout, AllocError>
-    ensures left { IfOk result (λ layout. layout_left layout ≡ weight_layout false ∷ []) }
-    ensures running { IfOk result (λ layout. IsRunning layout) }
-{
-    Ok(Layout::of(vec![in alloc;
-        LayoutPart::Many(Keyword::First),
-        LayoutPart::Blocks(first_turn(3)),
-        LayoutPart::Many(Keyword::Flow),
-        LayoutPart::One(Keyword::Taken),
-        LayoutPart::One(Keyword::Value),
-        LayoutPart::One(Keyword::Cut),
-        LayoutPart::One(Keyword::Total),
-        LayoutPart::Many(Keyword::Pair),
-        LayoutPart::One(Keyword::End),
-    ]?))
-}
-
-/// The layout of `meet` and `join`.
-fn given_layout(alloc: Global) -> Result<Layout, AllocError>
-    ensures left { IfOk result (λ layout. layout_left layout ≡ given_layout ∷ []) }
-    ensures running { IfOk result (λ layout. IsRunning layout) }
-{
-    Ok(Layout::of(vec![in alloc;
-        LayoutPart::Many(Keyword::Left),
-        LayoutPart::Many(Keyword::Right),
-        LayoutPart::Many(Keyword::Pair),
-        LayoutPart::One(Keyword::End),
-    ]?))
-}
-
-/// The turn of the first line of the first of blocks of so many lines.
-fn first_turn(lines: u32) -> BlockTurn
-    ensures { result ≡ first_turn lines }
-{
-    BlockTurn {
-        lines,
+static ROTATIONS: [LayoutPart; 3] = [
+    LayoutPart::Many(Keyword::First),
+    LayoutPart::Blocks(BlockTurn {
+        lines: 2,
         place: 0,
         number: 1,
-    }
+    }),
+    LayoutPart::One(Keyword::End),
+];
+
+/// The layout of `list` up to its end.
+static LIST_TO_END: [LayoutPart; 2] = [
+    LayoutPart::Many(Keyword::Vector),
+    LayoutPart::One(Keyword::End),
+];
+
+/// The layout of `list` where more follow.
+static LIST_IN_PART: [LayoutPart; 2] = [
+    LayoutPart::Many(Keyword::Vector),
+    LayoutPart::One(Keyword::More),
+];
+
+/// The layout of `regret`.
+static REGRET: [LayoutPart; 3] = [
+    LayoutPart::One(Keyword::Regret),
+    LayoutPart::Many(Keyword::Pair),
+    LayoutPart::One(Keyword::End),
+];
+
+/// The layout of `weight` in one level.
+static WEIGHT: [LayoutPart; 9] = [
+    LayoutPart::Many(Keyword::First),
+    LayoutPart::Blocks(BlockTurn {
+        lines: 3,
+        place: 0,
+        number: 1,
+    }),
+    LayoutPart::Many(Keyword::Flow),
+    LayoutPart::One(Keyword::Taken),
+    LayoutPart::One(Keyword::Value),
+    LayoutPart::One(Keyword::Cut),
+    LayoutPart::One(Keyword::Total),
+    LayoutPart::Many(Keyword::Pair),
+    LayoutPart::One(Keyword::End),
+];
+
+/// The layout of `weight` in two levels.
+static WEIGHT_IN_TWO: [LayoutPart; 13] = [
+    LayoutPart::Many(Keyword::First),
+    LayoutPart::Blocks(BlockTurn {
+        lines: 4,
+        place: 0,
+        number: 1,
+    }),
+    LayoutPart::Many(Keyword::Flow),
+    LayoutPart::Many(Keyword::SecondFlow),
+    LayoutPart::One(Keyword::Taken),
+    LayoutPart::One(Keyword::Value),
+    LayoutPart::One(Keyword::Cut),
+    LayoutPart::One(Keyword::Total),
+    LayoutPart::One(Keyword::SecondValue),
+    LayoutPart::One(Keyword::SecondCut),
+    LayoutPart::One(Keyword::SecondTotal),
+    LayoutPart::Many(Keyword::Pair),
+    LayoutPart::One(Keyword::End),
+];
+
+/// The layout of `meet` and `join`.
+static GIVEN: [LayoutPart; 4] = [
+    LayoutPart::Many(Keyword::Left),
+    LayoutPart::Many(Keyword::Right),
+    LayoutPart::Many(Keyword::Pair),
+    LayoutPart::One(Keyword::End),
+];
+
+/// A layout of these parts.
+fn laid(alloc: Global, parts: &[LayoutPart]) -> Result<Layout, AllocError>
+    requires { AreTurns parts.now }
+    ensures left { IfOk result (λ layout. layout_left layout ≡ parts.now ∷ []) }
+    ensures running { IfOk result (λ layout. IsRunning layout) }
+{
+    let mut kept = Vec::new(alloc);
+    kept.extend_from_slice(parts)?;
+    Ok(Layout::of(kept))
 }
