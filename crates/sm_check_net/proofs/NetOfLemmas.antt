@@ -18,7 +18,8 @@ use Rattle.sm_theory.proofs.Net.Tests.{and_parts, some_passes}
 use Rattle.sm_check_net.specs.declared.moves.Move.{Move}
 use Rattle.sm_check_net.specs.Moves.{move_at, AreRotationMoves, AreMovesByRotation}
 use Rattle.sm_check_net.specs.Pairs.{has_pair}
-use Rattle.sm_check_net.specs.Spans.{comes_to, goes_off, some_come, some_go, entry_by, exit_by, forced_pairs, forbidden_pairs}
+use Rattle.sm_check_net.specs.declared.spans.Passage.TheVariants.{Entry, Exit}
+use Rattle.sm_check_net.specs.Spans.{comes_to, goes_off, some_pass, entry_by, exit_by, forced_pairs, forbidden_pairs}
 use Rattle.sm_check_net.specs.CheckedNets.{gain_at}
 use Rattle.sm_check_net.specs.Laws.{NetIsOf}
 
@@ -48,8 +49,8 @@ module _ {l : Lists} {rotation : List (ℕ × ℕ)} {moves : List Move} (m : Are
   moved less = eqb-true _ p (passes_at_first (λ (pair : ℕ × ℕ). pair.0 == p) rotation (0, 0) less)
 
   -- where a move of p leads and from where
-  pub come_is : some_come levels p level moves ≡ moves_to l levels p level rotation
-  come_is = same_bool (some_come levels p level moves) (moves_to l levels p level rotation)
+  pub come_is : some_pass Entry levels p level moves ≡ moves_to l levels p level rotation
+  come_is = same_bool (some_pass Entry levels p level moves) (moves_to l levels p level rotation)
       (λ h.
       let w = some_passes (comes_to levels p level) moves (record { proposer = 0; from = 0; to = 0 }) h in
       let both = and_parts _ _ w.holds in
@@ -69,8 +70,8 @@ module _ {l : Lists} {rotation : List (ℕ × ℕ)} {moves : List Move} (m : Are
       (and_from _ _ (eq-eqb _ p (one.proposer ∙ who)) ((λ t. level_at levels p (to t) == level) ∙ both.1)))
 
   -- and where p leaves the level
-  pub go_is : some_go levels p level moves ≡ moves_off l levels p level rotation
-  go_is = same_bool (some_go levels p level moves) (moves_off l levels p level rotation)
+  pub go_is : some_pass Exit levels p level moves ≡ moves_off l levels p level rotation
+  go_is = same_bool (some_pass Exit levels p level moves) (moves_off l levels p level rotation)
       (λ h.
       let w = some_passes (goes_off levels p level) moves (record { proposer = 0; from = 0; to = 0 }) h in
       let both = and_parts _ _ w.holds in
@@ -100,10 +101,10 @@ module _ {l : Lists} {rotations : List (List (ℕ × ℕ))} {rows : List (List M
 
   entry_is : (p level : ℕ) → entry p level ≡ entry_node l levels first rotations p level
   entry_is p level = ap (λ n. if has_level levels p level (held first.proposers p) then 0 else suc n)
-      (same_first (some_come levels p level) (moves_to l levels p level) rows rotations [] [] m.one_each (λ k less. come_is (m.each k less) levels p level))
+      (same_first (some_pass Entry levels p level) (moves_to l levels p level) rows rotations [] [] m.one_each (λ k less. come_is (m.each k less) levels p level))
 
   exit_is : (p level : ℕ) → exit p level ≡ exit_node l levels rotations p level
-  exit_is p level = ap suc (same_first (some_go levels p level) (moves_off l levels p level) rows rotations [] [] m.one_each (λ k less. go_is (m.each k less) levels p level))
+  exit_is p level = ap suc (same_first (some_pass Exit levels p level) (moves_off l levels p level) rows rotations [] [] m.one_each (λ k less. go_is (m.each k less) levels p level))
 
   -- the bonds of pairs are their edges
   forced_are : (i j : ℕ) (pairs : List (ℕ × ℕ)) → has_pair (flat_map (forced_pairs entry exit (suc (length rows))) pairs) i j ≡ list_any (λ c. forces l levels first rotations c i j) pairs

@@ -13,7 +13,8 @@ use Rattle.sm_check_net.specs.declared.moves.Move.{Move}
 use Rattle.sm_check_net.specs.Moves.{move_at, row_of_moves}
 use Rattle.sm_check_net.specs.Pairs.{has_pair, IsFirstAt}
 use Rattle.sm_lists.specs.Pairs.{pair_at}
-use Rattle.sm_check_net.specs.Spans.{some_come, some_go, entry_by, exit_by, AreNodesFor, marked, marks, AreFirstBelow}
+use Rattle.sm_check_net.specs.declared.spans.Passage.TheVariants.{Entry, Exit}
+use Rattle.sm_check_net.specs.Spans.{some_pass, entry_by, exit_by, AreNodesFor, marked, marks, AreFirstBelow}
 use Rattle.sm_check_net.proofs.ReachLemmas.{step_at}
 use Rattle.sm_check_net.proofs.PairListLemmas.{in_either}
 
@@ -97,25 +98,25 @@ module _ (test : List Move → Bool) (rows : List (List Move)) where
 -- the nodes at which proposers come to levels, and those at which they leave them
 pub entries_are : (levels : List (List ℕ)) (places : List (Option ℕ)) (rows : List (List Move)) {keys : List (ℕ × ℕ)} {begun nodes : List ℕ} (n sink : ℕ) → n ≡ length rows → sink ≡ n + 1
     → AreNodesFor keys (λ p level. if has_level levels p level (held places p) then 0 else sink) begun → length nodes ≡ length begun
-    → ((x i j : ℕ) → IsFirstAt keys (i, j) x → slice_index nodes x ≡ marks (λ k. some_come levels i j (row_of_moves rows k)) n sink (slice_index begun x))
+    → ((x i j : ℕ) → IsFirstAt keys (i, j) x → slice_index nodes x ≡ marks (λ k. some_pass Entry levels i j (row_of_moves rows k)) n sink (slice_index begun x))
     → AreNodesFor keys (entry_by levels places rows) nodes
 entries_are levels places rows {keys} {begun} {nodes} n sink all is b long m = record {
   one_each = long ∙ b.one_each;
-  each = λ x i j f. m x i j f ∙ (λ t. marks (λ k. some_come levels i j (row_of_moves rows k)) (all t) sink (b.each x i j f t)) ∙ go i j (has_level levels i j (held places i));
+  each = λ x i j f. m x i j f ∙ (λ t. marks (λ k. some_pass Entry levels i j (row_of_moves rows k)) (all t) sink (b.each x i j f t)) ∙ go i j (has_level levels i j (held places i));
 }
   where
-    go : (i j : ℕ) (h : Bool) → marks (λ k. some_come levels i j (row_of_moves rows k)) (length rows) sink (if h then 0 else sink) ≡ (if h then 0 else suc (position_or_len (some_come levels i j) rows))
-    go i j true = marks_stay (λ k. some_come levels i j (row_of_moves rows k)) (length rows) sink 0 (λ e. omega (arith, e))
-    go i j false = marks_first (some_come levels i j) rows sink (omega arith)
+    go : (i j : ℕ) (h : Bool) → marks (λ k. some_pass Entry levels i j (row_of_moves rows k)) (length rows) sink (if h then 0 else sink) ≡ (if h then 0 else suc (position_or_len (some_pass Entry levels i j) rows))
+    go i j true = marks_stay (λ k. some_pass Entry levels i j (row_of_moves rows k)) (length rows) sink 0 (λ e. omega (arith, e))
+    go i j false = marks_first (some_pass Entry levels i j) rows sink (omega arith)
 
 -- and so with the nodes at which proposers leave levels
 pub exits_are : (levels : List (List ℕ)) (rows : List (List Move)) {keys : List (ℕ × ℕ)} {nodes : List ℕ} (begun : List ℕ) (n sink : ℕ) → n ≡ length rows → sink ≡ n + 1
     → length begun ≡ length keys → ((x : ℕ) → x < length keys → slice_index begun x ≡ sink) → length nodes ≡ length begun
-    → ((x i j : ℕ) → IsFirstAt keys (i, j) x → slice_index nodes x ≡ marks (λ k. some_go levels i j (row_of_moves rows k)) n sink (slice_index begun x))
+    → ((x i j : ℕ) → IsFirstAt keys (i, j) x → slice_index nodes x ≡ marks (λ k. some_pass Exit levels i j (row_of_moves rows k)) n sink (slice_index begun x))
     → AreNodesFor keys (exit_by levels rows) nodes
 exits_are levels rows begun n sink count is each all long m = record {
   one_each = long ∙ each;
-  each = λ x i j f. m x i j f ∙ (λ t. marks (λ k. some_go levels i j (row_of_moves rows k)) (count t) sink (all x f.there t)) ∙ marks_first (some_go levels i j) rows sink (omega arith);
+  each = λ x i j f. m x i j f ∙ (λ t. marks (λ k. some_pass Exit levels i j (row_of_moves rows k)) (count t) sink (all x f.there t)) ∙ marks_first (some_pass Exit levels i j) rows sink (omega arith);
 }
 
 -- one more pair's bonds

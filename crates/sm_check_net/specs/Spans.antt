@@ -6,6 +6,8 @@ use Rattle.sm_lists.specs.Rows.{row}
 use Rattle.sm_market.specs.Matching.{held}
 use Rattle.sm_theory.specs.Conditions.{level_at, has_level}
 use Rattle.sm_check_net.specs.declared.moves.Move.{Move}
+use Rattle.sm_check_net.specs.declared.spans.Passage.{Passage}
+use Rattle.sm_check_net.specs.declared.spans.Passage.TheVariants.{Entry, Exit}
 use Rattle.sm_check_net.specs.Moves.{move_at}
 use Rattle.sm_check_net.specs.Pairs.{IsFirstAt}
 use Rattle.sm_lists.specs.Pairs.{pair_at}
@@ -18,21 +20,22 @@ comes_to levels p level step = step.proposer == p && level_at levels p step.to =
 abbrev pub goes_off : List (List ℕ) → ℕ → ℕ → Move → Bool
 goes_off levels p level step = step.proposer == p && (level_at levels p step.from == level && not (level_at levels p step.to == level))
 
--- one of the moves does
-abbrev pub some_come : List (List ℕ) → ℕ → ℕ → List Move → Bool
-some_come levels p level moves = list_any (comes_to levels p level) moves
+-- a move passes p's level: it leads p to it, or off it
+abbrev pub passes : Passage → List (List ℕ) → ℕ → ℕ → Move → Bool
+passes Entry = comes_to
+passes Exit = goes_off
 
--- one of the moves leads p off the level
-abbrev pub some_go : List (List ℕ) → ℕ → ℕ → List Move → Bool
-some_go levels p level moves = list_any (goes_off levels p level) moves
+-- one of the moves does
+abbrev pub some_pass : Passage → List (List ℕ) → ℕ → ℕ → List Move → Bool
+some_pass passage levels p level moves = list_any (passes passage levels p level) moves
 
 -- the node at which p comes to the level, and the one at which it leaves it
 abbrev pub entry_by : List (List ℕ) → List (Option ℕ) → List (List Move) → ℕ → ℕ → ℕ
-entry_by levels first rows p level = if has_level levels p level (held first p) then 0 else suc (position_or_len (some_come levels p level) rows)
+entry_by levels first rows p level = if has_level levels p level (held first p) then 0 else suc (position_or_len (some_pass Entry levels p level) rows)
 
 -- the node at which p leaves the level: that of the first rotation which leads p off it, else the sink
 abbrev pub exit_by : List (List ℕ) → List (List Move) → ℕ → ℕ → ℕ
-exit_by levels rows p level = suc (position_or_len (some_go levels p level) rows)
+exit_by levels rows p level = suc (position_or_len (some_pass Exit levels p level) rows)
 
 -- the edges of a forced pair of a proposer and a level, and that of a forbidden one
 abbrev pub forced_pairs : (entry exit : ℕ → ℕ → ℕ) → (sink : ℕ) → ℕ × ℕ → List (ℕ × ℕ)

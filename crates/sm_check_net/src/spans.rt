@@ -8,7 +8,7 @@ ghost use Rattle.sm_theory.specs.Conditions.{has_level};
 ghost use Rattle.sm_check_net.specs.Pairs.{has_pair, IsFirstAt};
 ghost use Rattle.sm_lists.specs.Pairs.{pair_at};
 ghost use Rattle.sm_check_net.specs.Moves.{moves_in, row_of_moves};
-ghost use Rattle.sm_check_net.specs.Spans.{comes_to, goes_off, some_come, some_go, entry_by, exit_by, forced_pairs, forbidden_pairs, bonds_of, AreNodesFor, marked, marks, HaveLevels, HaveFirstLevels, AreFirstBelow};
+ghost use Rattle.sm_check_net.specs.Spans.{passes, some_pass, entry_by, exit_by, forced_pairs, forbidden_pairs, bonds_of, AreNodesFor, marked, marks, HaveLevels, HaveFirstLevels, AreFirstBelow};
 
 use crate::moves::Move;
 use crate::pairs::Pairs;
@@ -92,7 +92,11 @@ fn entries(
 {
     let sink = moves.len() as u32 + 1;
     let mut nodes = begun(alloc, levels, first, keys, sink)?;
-    come_all(levels, moves, keys, sink, &mut nodes);
+    let passages = Passages {
+        levels,
+        passage: Passage::Entry,
+    };
+    mark_all(passages, moves, keys, sink, &mut nodes);
     Ok(nodes)
 }
 
@@ -111,7 +115,11 @@ fn exits(
 {
     let sink = moves.len() as u32 + 1;
     let mut nodes = all_at(alloc, keys.len(), sink)?;
-    go_all(levels, moves, keys, sink, &mut nodes);
+    let passages = Passages {
+        levels,
+        passage: Passage::Exit,
+    };
+    mark_all(passages, moves, keys, sink, &mut nodes);
     Ok(nodes)
 }
 
@@ -165,37 +173,42 @@ fn begin(levels: &[Vec<u32>], first: &Pairing, p: u32, level: u32, sink: u32) ->
     }
 }
 
-/// Marks, for all rotations in order, where proposers come to levels first.
-fn come_all(levels: &[Vec<u32>], moves: &[Vec<Move>], keys: &Pairs, sink: u32, nodes: &mut [u32])
-    requires few { length moves.now + 2 < 2 ^ 32 }
-    requires sink { sink ≡ length moves.now + 1 }
-    requires moves { (k : ℕ) → k < length moves.now
-        → HaveLevels (rows_of levels.now) (row_of_moves (moves_in moves.now) k) }
-    requires one_each { length nodes.old ≡ length keys.now }
-    ensures one_each { length nodes.new ≡ length nodes.old }
-    ensures marked { (x i j : ℕ) → IsFirstAt keys.now (i, j) x → slice_index nodes.new x
-        ≡ marks (λ k. some_come (rows_of levels.now) i j (row_of_moves (moves_in moves.now) k))
-        (length moves.now) sink (slice_index nodes.old x) }
-{
-    for k in 0..moves.len() {
-        come(levels, moves_at(moves, k), keys, k as u32 + 1, sink, nodes);
-    }
+/// How a proposer passes a level.
+#[derive(Clone, Copy)]
+enum Passage {
+    /// It comes to the level.
+    Entry,
+    /// It leaves the level.
+    Exit,
 }
 
-/// Marks, for all rotations in order, where proposers leave levels first.
-fn go_all(levels: &[Vec<u32>], moves: &[Vec<Move>], keys: &Pairs, sink: u32, nodes: &mut [u32])
+/// The levels of proposers, and how they are passed.
+#[derive(Clone, Copy)]
+struct Passages<'a> {
+    levels: &'a [Vec<u32>],
+    passage: Passage,
+}
+
+/// Marks, for all rotations in order, where proposers pass levels first.
+fn mark_all(
+    passages: Passages,
+    moves: &[Vec<Move>],
+    keys: &Pairs,
+    sink: u32,
+    nodes: &mut [u32],
+)
     requires few { length moves.now + 2 < 2 ^ 32 }
     requires sink { sink ≡ length moves.now + 1 }
     requires moves { (k : ℕ) → k < length moves.now
-        → HaveLevels (rows_of levels.now) (row_of_moves (moves_in moves.now) k) }
+        → HaveLevels (rows_of passages.levels.now) (row_of_moves (moves_in moves.now) k) }
     requires one_each { length nodes.old ≡ length keys.now }
     ensures one_each { length nodes.new ≡ length nodes.old }
     ensures marked { (x i j : ℕ) → IsFirstAt keys.now (i, j) x → slice_index nodes.new x
-        ≡ marks (λ k. some_go (rows_of levels.now) i j (row_of_moves (moves_in moves.now) k))
-        (length moves.now) sink (slice_index nodes.old x) }
+        ≡ marks (λ k. some_pass passages.entry.passage (rows_of passages.entry.levels.now) i j
+        (row_of_moves (moves_in moves.now) k)) (length moves.now) sink (slice_index nodes.old x) }
 {
     for k in 0..moves.len() {
-        go(levels, moves_at(moves, k), keys, k as u32 + 1, sink, nodes);
+        mark_moves(passages, moves_at(moves, k), keys, k as u32 + 1, sink, nodes);
     }
 }
 
@@ -207,61 +220,55 @@ pub(crate) fn moves_at(moves: &[Vec<Move>], k: usize) -> &[Move]
     &moves[k]
 }
 
-/// Marks where proposers come to levels by these moves, and have not come before.
-fn come(levels: &[Vec<u32>], moves: &[Move], keys: &Pairs, node: u32, sink: u32, nodes: &mut [u32])
-    requires moves { HaveLevels (rows_of levels.now) moves.now }
+/// Marks where proposers pass levels by these moves, and have not passed them before.
+fn mark_moves(
+    passages: Passages,
+    moves: &[Move],
+    keys: &Pairs,
+    node: u32,
+    sink: u32,
+    nodes: &mut [u32],
+)
+    requires moves { HaveLevels (rows_of passages.levels.now) moves.now }
     requires one_each { length nodes.old ≡ length keys.now }
     requires node { node < sink }
     ensures one_each { length nodes.new ≡ length nodes.old }
     ensures marked { (x i j : ℕ) → IsFirstAt keys.now (i, j) x → slice_index nodes.new x
-        ≡ marked (some_come (rows_of levels.now) i j moves.now) node sink
+        ≡ marked (some_pass passages.entry.passage (rows_of passages.entry.levels.now) i j moves.now) node sink
         (slice_index nodes.old x) }
 {
     for n in 0..moves.len() {
-        come_by(levels, moves[n], keys, node, sink, nodes);
+        mark_move(passages, moves[n], keys, node, sink, nodes);
     }
 }
 
-/// Marks where proposers leave levels by these moves, and have not left them before.
-fn go(levels: &[Vec<u32>], moves: &[Move], keys: &Pairs, node: u32, sink: u32, nodes: &mut [u32])
-    requires moves { HaveLevels (rows_of levels.now) moves.now }
-    requires one_each { length nodes.old ≡ length keys.now }
-    requires node { node < sink }
-    ensures one_each { length nodes.new ≡ length nodes.old }
-    ensures marked { (x i j : ℕ) → IsFirstAt keys.now (i, j) x → slice_index nodes.new x
-        ≡ marked (some_go (rows_of levels.now) i j moves.now) node sink (slice_index nodes.old x) }
-{
-    for n in 0..moves.len() {
-        go_by(levels, moves[n], keys, node, sink, nodes);
-    }
-}
-
-/// Marks where a proposer comes to a level by a move.
-fn come_by(levels: &[Vec<u32>], step: Move, keys: &Pairs, node: u32, sink: u32, nodes: &mut [u32])
-    requires proposer { step.proposer < length levels.now }
-    requires to { step.to < length (row (rows_of levels.now) step.proposer) }
+/// Marks the level that a proposer passes by a move.
+fn mark_move(
+    passages: Passages,
+    step: Move,
+    keys: &Pairs,
+    node: u32,
+    sink: u32,
+    nodes: &mut [u32],
+)
+    requires proposer { step.proposer < length passages.levels.now }
+    requires from { step.from < length (row (rows_of passages.levels.now) step.proposer) }
+    requires to { step.to < length (row (rows_of passages.levels.now) step.proposer) }
     requires one_each { length nodes.old ≡ length keys.now }
     ensures one_each { length nodes.new ≡ length nodes.old }
     ensures marked { (x i j : ℕ) → IsFirstAt keys.now (i, j) x → slice_index nodes.new x
-        ≡ marked (comes_to (rows_of levels.now) i j step) node sink (slice_index nodes.old x) }
+        ≡ marked (passes passages.entry.passage (rows_of passages.entry.levels.now) i j step) node sink
+        (slice_index nodes.old x) }
 {
-    let level = entry_at(levels, step.proposer, step.to);
-    mark(keys, (step.proposer, level), node, sink, nodes);
-}
-
-/// Marks where a proposer leaves a level by a move.
-fn go_by(levels: &[Vec<u32>], step: Move, keys: &Pairs, node: u32, sink: u32, nodes: &mut [u32])
-    requires proposer { step.proposer < length levels.now }
-    requires from { step.from < length (row (rows_of levels.now) step.proposer) }
-    requires to { step.to < length (row (rows_of levels.now) step.proposer) }
-    requires one_each { length nodes.old ≡ length keys.now }
-    ensures one_each { length nodes.new ≡ length nodes.old }
-    ensures marked { (x i j : ℕ) → IsFirstAt keys.now (i, j) x → slice_index nodes.new x
-        ≡ marked (goes_off (rows_of levels.now) i j step) node sink (slice_index nodes.old x) }
-{
-    let level = entry_at(levels, step.proposer, step.from);
-    if level != entry_at(levels, step.proposer, step.to) {
-        mark(keys, (step.proposer, level), node, sink, nodes);
+    let to = entry_at(passages.levels, step.proposer, step.to);
+    match passages.passage {
+        Passage::Entry => mark(keys, (step.proposer, to), node, sink, nodes),
+        Passage::Exit => {
+            let from = entry_at(passages.levels, step.proposer, step.from);
+            if from != to {
+                mark(keys, (step.proposer, from), node, sink, nodes);
+            }
+        }
     }
 }
 

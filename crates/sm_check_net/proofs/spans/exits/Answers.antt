@@ -11,9 +11,9 @@ returns c =
     let n : ℕ = length c.args.keys.now in
     let sink : ℕ = length c.args.moves.now + 1 in
     let items : c.deref_mut.result.now ≡ replicate c.len.result sink = c.deref_mut.ensures.value ∙ c.in_ok-nodes.ensures in
-    let long : length c.go_all.new.nodes ≡ c.in_ok-nodes.nodes.len = omega (arith, c.go_all.ensures.one_each, c.deref_mut.ensures.len) in
+    let long : length c.mark_all.new.nodes ≡ c.in_ok-nodes.nodes.len = omega (arith, c.mark_all.ensures.one_each, c.deref_mut.ensures.len) in
     let each : length c.deref_mut.result.now ≡ n = ap length items ∙ length-replicate {A = ℕ} c.len.result sink ∙ c.len.ensures in
     let all : (x : ℕ) → x < n → slice_index c.deref_mut.result.now x ≡ sink =
     (λ x less. ap (λ (xs : List ℕ). slice_index xs x) items ∙ get_or-replicate {A = ℕ} c.len.result x sink 0 (omega (arith, c.len.ensures, less))) in
-    rw (take-append_at_length c.in_ok-nodes.nodes.len c.go_all.new.nodes _ long)
-    (exits_are (rows_of c.args.levels.now) (moves_in c.args.moves.now) _ _ sink (sym (length-map c.args.moves.now _)) (omega arith) each all c.go_all.ensures.one_each c.go_all.ensures.marked)
+    rw (take-append_at_length c.in_ok-nodes.nodes.len c.mark_all.new.nodes _ long)
+    (exits_are (rows_of c.args.levels.now) (moves_in c.args.moves.now) _ _ sink (sym (length-map c.args.moves.now _)) (omega arith) each all c.mark_all.ensures.one_each c.mark_all.ensures.marked)
