@@ -18,7 +18,9 @@ ghost use Rattle.sm_check_clauses.specs.Judges.{IsOwnLine, input_of};
 ghost use Rattle.sm_cert.specs.Checking.{HasFewSeats, IsCertFault, first_head, says_none};
 
 use crate::faults::CertFault;
-use sm_check_answers::{chosen_verdict, list_verdict, reduced_verdict, regret_verdict, rotations_verdict, solve_verdict};
+use sm_check_answers::{
+    chosen_verdict, list_verdict, reduced_verdict, regret_verdict, rotations_verdict, solve_verdict,
+};
 use sm_check_clauses::Verdict;
 use sm_check_forms::{AnswerFault, read_answer};
 use sm_check_roommates::{couples_verdict, parties_verdict};

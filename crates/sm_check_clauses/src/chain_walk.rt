@@ -55,11 +55,7 @@ impl ChainWalk {
     /// # Errors
     ///
     /// `AllocError` where memory ran out, and only then.
-    pub fn of(
-        alloc: Global,
-        market: &Market,
-        first: Pairing,
-    ) -> Result<ChainWalk, AllocError>
+    pub fn of(alloc: Global, market: &Market, first: Pairing) -> Result<ChainWalk, AllocError>
         requires made { IsPairingOf market.now first }
         requires best { IsProposersBest market.now first.places }
         ensures walk { IfOk result (λ walk. IsChainWalk market.now first.places [] walk) }

@@ -190,13 +190,7 @@ struct Passages<'a> {
 }
 
 /// Marks, for all rotations in order, where proposers pass levels first.
-fn mark_all(
-    passages: Passages,
-    moves: &[Vec<Move>],
-    keys: &Pairs,
-    sink: u32,
-    nodes: &mut [u32],
-)
+fn mark_all(passages: Passages, moves: &[Vec<Move>], keys: &Pairs, sink: u32, nodes: &mut [u32])
     requires few { length moves.now + 2 < 2 ^ 32 }
     requires sink { sink ≡ length moves.now + 1 }
     requires moves { (k : ℕ) → k < length moves.now
@@ -208,7 +202,14 @@ fn mark_all(
         (row_of_moves (moves_in moves.now) k)) (length moves.now) sink (slice_index nodes.old x) }
 {
     for k in 0..moves.len() {
-        mark_moves(passages, moves_at(moves, k), keys, k as u32 + 1, sink, nodes);
+        mark_moves(
+            passages,
+            moves_at(moves, k),
+            keys,
+            k as u32 + 1,
+            sink,
+            nodes,
+        );
     }
 }
 
@@ -243,14 +244,7 @@ fn mark_moves(
 }
 
 /// Marks the level that a proposer passes by a move.
-fn mark_move(
-    passages: Passages,
-    step: Move,
-    keys: &Pairs,
-    node: u32,
-    sink: u32,
-    nodes: &mut [u32],
-)
+fn mark_move(passages: Passages, step: Move, keys: &Pairs, node: u32, sink: u32, nodes: &mut [u32])
     requires proposer { step.proposer < length passages.levels.now }
     requires from { step.from < length (row (rows_of passages.levels.now) step.proposer) }
     requires to { step.to < length (row (rows_of passages.levels.now) step.proposer) }

@@ -55,11 +55,7 @@ fn gain_limits(
 }
 
 /// The place, on each reviewer's list, of the one that it likes least of the proposers that it has; 0 where it has none.
-fn worst_places(
-    alloc: Global,
-    instance: &Instance,
-    a: &Assignment,
-) -> Result<Vec<u32>, AllocError>
+fn worst_places(alloc: Global, instance: &Instance, a: &Assignment) -> Result<Vec<u32>, AllocError>
     requires { IsMatching instance.now a.now.places.items }
     ensures { IfOk result (λ worst. AreWorst instance.now a.now.places.items worst.items) }
 {

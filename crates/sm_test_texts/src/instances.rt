@@ -115,7 +115,9 @@ fn adds(
         panic!(rt; "the pair can't be held");
     }
     assert!(rt; !holding.add(instance, pair.0, pair.1));
-    let found = holding.first_blocking(rt.alloc(), instance).expect(rt, "memory");
+    let found = holding
+        .first_blocking(rt.alloc(), instance)
+        .expect(rt, "memory");
     assert!(rt; found == blocking);
 }
 

@@ -15,5 +15,5 @@ rows-preserved c p i a = ⊎_elim (λ before. c.rows.invariant p i before) here 
         let at : p ≡ c.rows.p = omega (arith, a, behind) in
         let less : c.rows.p < length weights = omega (arith, c.rows-test.true) in
         let row : c.deref.result.now ≡ place_weights (weights_in weights) c.rows.p =
-            c.deref.ensures.value ∙ ap (λ (v : Vec ℤ Global). v.items) c.index-weights-p.is ∙ vector_read weights c.rows.p c.index-weights-p.result less in
+        c.deref.ensures.value ∙ ap (λ (v : Vec ℤ Global). v.items) c.index-weights-p.is ∙ vector_read weights c.rows.p c.index-weights-p.result less in
         ap (λ q. weight_at (weights_in weights) q i) at ∙ ap (λ (xs : List ℤ). slice_index_or xs i (pos 0)) (sym row) ∙ c.are_zero.ensures.0 c.if-not-are_zero.false i
