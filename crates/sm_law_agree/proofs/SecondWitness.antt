@@ -1,14 +1,12 @@
 -- The answer of `weight` in two levels of specs/Witnesses.antt.
-use Rattle.std.proofs.Common.{◌≡◌, ◌≢◌, ℕ, zero, suc, ◌<◌, ◌≤◌, inl, inr, List, [], ◌∷◌, refl, ap, subst, arith, ne_eqb}
+use Rattle.std.proofs.Common.{◌≡◌, ℕ, zero, suc, ◌<◌, ◌≤◌, inl, inr, List, [], ◌∷◌, refl, ap, subst, arith, ne_eqb}
 use Rattle.std.specs.Prelude.{pos, negsuc}
 use Rattle.std.specs.Int.RustNames.{unsigned_abs}
 use Rattle.std.proofs.lemmas.List.Elements.{All-cons}
 use Rattle.sm_text.specs.Limits.{most_weight}
-use Rattle.sm_lists.specs.Pairs.{pair_at}
-use Rattle.sm_instance.specs.Sound.{IsInstance, IsSoundItem, items_of}
+use Rattle.sm_instance.specs.Sound.{IsInstance}
 use Rattle.sm_instance.specs.Lightest.{IsLightestByBoth}
 use Rattle.sm_instance.specs.declared.kinds.Measure.TheVariants.{Given}
-use Rattle.sm_instance.proofs.OrderLemmas.{range_is_each_once}
 use Rattle.sm_answer.proofs.AnswerLemmas.{one_all}
 use Rattle.sm_theory.specs.ClosedSets.{matching_of}
 use Rattle.sm_theory.specs.Net.{Net, sink_of, HasEdge}
@@ -22,7 +20,7 @@ use Rattle.sm_theory.specs.WitnessesLines.{line, three_cycle_lines}
 use Rattle.sm_theory.specs.WitnessesSecond.{first_weights, second_weights, first_level_net, second_level_flow}
 use Rattle.sm_theory.proofs.Flow.Witness.{worked_net}
 use Rattle.sm_theory.proofs.Flow.SecondWitness.{worked_second_net}
-use Rattle.sm_theory.proofs.Tests.Markets.{below_two, three_cycle_is}
+use Rattle.sm_theory.proofs.Tests.Markets.{three_cycle_is}
 use Rattle.sm_theory.proofs.Weighing.Second.{certificate_of_two}
 use Rattle.sm_seats.specs.Seating.{seating_of, written_of}
 use Rattle.sm_seats.specs.Correspondence.{IsSeating}
@@ -32,32 +30,13 @@ use Rattle.sm_answer_rotations.proofs.ShownLemmas.{correspondence}
 use Rattle.sm_answer_weight.specs.WeightAnswer.{FillsCut, IsCertificate, IsWeightAnswer}
 use Rattle.sm_answer_weight.specs.Witnesses.{parts_of_two, answer_of_two}
 use Rattle.sm_law_agree.specs.Witnesses.{weighed_by_two, WeighedByTwo}
-use Rattle.sm_law_agree.proofs.WitnessLemmas.{three_instance}
-use Rattle.sm_law_agree.proofs.WeightWitness.{set, closed, allowed, two_sound}
+use Rattle.sm_law_agree.proofs.WeightWitness.{sound_weights, set, closed, allowed, two_sound}
 
 -- Its weights are sound.
 two_instance : IsInstance weighed_by_two
-two_instance = record {
-  two_sided = three_instance.two_sided;
-  limits = three_instance.limits;
-  proposers = three_instance.proposers;
-  reviewers = three_instance.reviewers;
-  proposer_entries = three_instance.proposer_entries;
-  reviewer_entries = three_instance.reviewer_entries;
-  items = below_two (IsSoundItem 3 3 weighed_by_two.weights items)
-      (record { pair = record { proposer = omega arith; reviewer = omega arith }; size = λ l. omega arith; fresh = λ l k less. absurd (omega (arith, less)) })
-      (record { pair = record { proposer = omega arith; reviewer = omega arith }; size = λ l. omega arith; fresh = λ l k less. other k less });
-  seconds_each = refl;
-  seconds_small = All-cons (λ z. unsigned_abs z ≤ most_weight) (pos 1) (negsuc 1 ∷ []) (omega arith) (one_all (λ z. unsigned_abs z ≤ most_weight) (negsuc 1) (omega arith));
-  order = range_is_each_once 3;
-}
-  where
-    items : List (ℕ × ℕ)
-    items = items_of weighed_by_two.weights [] []
-
-    other : (k : ℕ) → k < 1 → pair_at (items_of weighed_by_two.weights [] []) k ≢ pair_at (items_of weighed_by_two.weights [] []) 1
-    other zero less same = let e : ◌≡◌ {A = ℕ} 0 1 = ap (λ (pair : ℕ × ℕ). pair.0) same in omega (arith, e)
-    other (suc k) less same = absurd (omega (arith, less))
+two_instance = sound_weights (0, 1, pos 4) (1, 0, pos 0) weighed_by_two.seconds (record { proposer = omega arith; reviewer = omega arith }) (record { proposer = omega arith; reviewer = omega arith })
+    (λ same. let e : ◌≡◌ {A = ℕ} 0 1 = ap (λ (pair : ℕ × ℕ). pair.0) same in omega (arith, e)) (omega arith) (omega arith)
+    refl (All-cons (λ z. unsigned_abs z ≤ most_weight) (pos 1) (negsuc 1 ∷ []) (omega arith) (one_all (λ z. unsigned_abs z ≤ most_weight) (negsuc 1) (omega arith)))
 
 -- Both flows go round the same way.
 

@@ -1,13 +1,14 @@
 -- The answer of `weight` of specs/Witnesses.antt.
-use Rattle.std.proofs.Common.{◌≡◌, ◌≢◌, ℕ, zero, suc, ◌<◌, ◌≤◌, ◌↔◌, inl, inr, true, Bool, List, [], ◌∷◌, refl, ap, arith}
+use Rattle.std.proofs.Common.{◌≡◌, ◌≢◌, ℕ, zero, suc, ◌<◌, ◌≤◌, ◌↔◌, inl, inr, true, Bool, List, [], ◌∷◌, length, refl, ap, arith}
 use Rattle.std.specs.Prelude.{ℤ, pos, negsuc}
 use Rattle.std.specs.List.{All}
 use Rattle.std.specs.Int.RustNames.{unsigned_abs}
 use Rattle.std.proofs.lemmas.List.Elements.{All-cons, All-from_recursion}
+use Rattle.sm_text.specs.Limits.{most_weight}
 use Rattle.sm_instance.proofs.OrderLemmas.{range_is_each_once}
 use Rattle.sm_instance.proofs.SecondLemmas.{zeros_small}
 use Rattle.sm_instance.specs.Written.{Written}
-use Rattle.sm_instance.specs.Sound.{IsInstance, IsSoundItem, items_of}
+use Rattle.sm_instance.specs.Sound.{IsInstance, IsPairOf, IsSoundItem, items_of}
 use Rattle.sm_lists.specs.Pairs.{pair_at}
 use Rattle.sm_instance.specs.declared.inputs.Input.TheVariants.{Two}
 use Rattle.sm_instance.specs.declared.kinds.Measure.TheVariants.{Given}
@@ -49,29 +50,36 @@ use Rattle.sm_report.specs.Witnesses.{first_seat_of}
 use Rattle.sm_answer_weight.specs.Witnesses.{three_parts, worked_answer, answer_of_two}
 use Rattle.sm_law_agree.proofs.WitnessLemmas.{three_instance}
 
--- Its two weights are sound.
-weighed_instance : IsInstance weighed_three
-weighed_instance = record {
+-- Two weights of these three by three, and second weights, are sound where they are small and the two are of two pairs.
+pub sound_weights : (a b : ℕ × ℕ × ℤ) (seconds : List ℤ) → IsPairOf 3 3 (a.0, a.1) → IsPairOf 3 3 (b.0, b.1) → ◌≢◌ {A = ℕ × ℕ} (a.0, a.1) (b.0, b.1)
+    → unsigned_abs a.2 ≤ most_weight → unsigned_abs b.2 ≤ most_weight → length seconds ≡ 2 → All (λ z. unsigned_abs z ≤ most_weight) seconds
+    → IsInstance (record weighed_three { weights = a ∷ b ∷ []; seconds = seconds })
+sound_weights a b seconds is_a is_b differ small_a small_b each small = record {
   two_sided = three_instance.two_sided;
   limits = three_instance.limits;
   proposers = three_instance.proposers;
   reviewers = three_instance.reviewers;
   proposer_entries = three_instance.proposer_entries;
   reviewer_entries = three_instance.reviewer_entries;
-  items = below_two (IsSoundItem 3 3 weighed_three.weights items)
-      (record { pair = record { proposer = omega arith; reviewer = omega arith }; size = λ l. omega arith; fresh = λ l k less. absurd (omega (arith, less)) })
-      (record { pair = record { proposer = omega arith; reviewer = omega arith }; size = λ l. omega arith; fresh = λ l k less. other k less });
-  seconds_each = refl;
-  seconds_small = zeros_small weighed_three.weights;
+  items = below_two (IsSoundItem 3 3 (a ∷ b ∷ []) items)
+      (record { pair = is_a; size = λ l. small_a; fresh = λ l k less. absurd (omega (arith, less)) })
+      (record { pair = is_b; size = λ l. small_b; fresh = λ l k less. other k less });
+  seconds_each = each;
+  seconds_small = small;
   order = range_is_each_once 3;
 }
   where
     items : List (ℕ × ℕ)
-    items = items_of weighed_three.weights [] []
+    items = items_of (a ∷ b ∷ []) [] []
 
-    other : (k : ℕ) → k < 1 → pair_at (items_of weighed_three.weights [] []) k ≢ pair_at (items_of weighed_three.weights [] []) 1
-    other zero less same = let e : ◌≡◌ {A = ℕ} 1 2 = ap (λ (pair : ℕ × ℕ). pair.1) same in omega (arith, e)
-    other (suc k) less same = absurd (omega (arith, less))
+    other : (k : ℕ) → k < 1 → pair_at (items_of (a ∷ b ∷ []) [] []) k ≢ pair_at (items_of (a ∷ b ∷ []) [] []) 1
+    other zero less = differ
+    other (suc k) less = absurd (omega (arith, less))
+
+-- so are its two
+weighed_instance : IsInstance weighed_three
+weighed_instance = sound_weights (0, 1, pos 4) (0, 2, negsuc 9) weighed_three.seconds (record { proposer = omega arith; reviewer = omega arith }) (record { proposer = omega arith; reviewer = omega arith })
+    (λ same. let e : ◌≡◌ {A = ℕ} 1 2 = ap (λ (pair : ℕ × ℕ). pair.1) same in omega (arith, e)) (omega arith) (omega arith) refl (zeros_small weighed_three.weights)
 
 -- The flow leaves both rotations in its reach, which is a cut.
 abbrev pub set : List Bool
