@@ -9,3 +9,4 @@ pub mod TableLemmas
 pub mod ListingLemmas
 pub mod OrderLemmas
 pub mod AllLemmas
+pub mod EnoughLemmas

@@ -2,3 +2,4 @@ pub mod Words
 pub mod Keys
 pub mod Tokens
 pub mod Tables
+pub mod Enough

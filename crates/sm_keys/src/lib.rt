@@ -3,11 +3,13 @@
 #![tactic(auto)]
 
 mod key;
+mod long;
 mod names;
 mod recent;
 mod tokens;
 
 pub use key::Key;
+pub use long::cut_enough;
 pub use names::Names;
 pub use recent::Recent;
-pub use tokens::{Found, cut, is_run, line_from};
+pub use tokens::{Found, is_run, line_from};

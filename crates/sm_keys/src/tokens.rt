@@ -22,11 +22,11 @@ pub struct Found {
 
 /// Where a token stands on a line, and what it was found to be.
 #[derive(Clone, Copy)]
-struct Token {
-    start: usize,
-    stop: usize,
+pub(crate) struct Token {
+    pub(crate) start: usize,
+    pub(crate) stop: usize,
     /// Is it a byte that no line of an instance holds?
-    bad: bool,
+    pub(crate) bad: bool,
     /// Is it a name?
     name: bool,
 }
@@ -48,7 +48,7 @@ pub fn line_from<'a>(bytes: &'a [u8], from: usize) -> Option<(&'a [u8], usize)>
 /// # Errors
 ///
 /// `AllocError` where memory ran out, and only then. Nothing is said of the vector then.
-pub fn cut<'a>(line: &'a [u8], into: &mut Vec<&'a [u8]>) -> Result<Found, AllocError>
+pub(crate) fn cut<'a>(line: &'a [u8], into: &mut Vec<&'a [u8]>) -> Result<Found, AllocError>
     ensures cut { IfOk result (λ _. texts_of into.new.items ≡ tokens line.now) }
     ensures bad { IfOk result (λ found. found.bad ≡ list_any is_bad (tokens line.now)) }
     ensures names { IfOk result (λ found. AreNamesAtEnd found.names (tokens line.now)) }
@@ -149,7 +149,7 @@ fn long_run_len(line: &[u8], at: usize) -> usize
 }
 
 /// The first token at or behind a place of a line.
-fn token_from(line: &[u8], from: usize) -> Option<Token>
+pub(crate) fn token_from(line: &[u8], from: usize) -> Option<Token>
     ensures places { MatchOption result (tokens (drop from line.now) ≡ [])
         (λ t. IsLeading line.now from t.start t.stop) }
     ensures bad { IfSome result (λ t. t.bad ≡ is_bad

@@ -14,3 +14,4 @@ pub mod SoundTextLemmas
 pub mod MasterLemmas
 pub mod WitnessLemmas
 pub mod FormLemmas
+pub mod EnoughLemmas

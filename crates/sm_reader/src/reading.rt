@@ -22,7 +22,7 @@ use crate::header::Header;
 use crate::judging::{Step, judge};
 use crate::numbering::{first_unknown, numbered_persons, numbered_sides};
 use sm_instance::{Input, Instance, Kind, Persons};
-use sm_keys::{cut, line_from};
+use sm_keys::{cut_enough, line_from};
 use sm_text::{MOST_BYTES, RefusalKind, TextHash};
 use std::alloc::{AllocError, Global};
 
@@ -76,7 +76,7 @@ fn read_header(alloc: Global, bytes: &[u8]) -> Result<Header, TextFault>
     let mut at = 0;
     let mut line = 1;
     'lines: while let Some((text, next)) = line_from(bytes, at) {
-        let found = cut(text, &mut tokens)?;
+        let found = cut_enough(text, &mut tokens)?;
         if let Some((kind, format)) = heading(&tokens, found.bad, line)? {
             return Ok(Header {
                 kind,
@@ -125,7 +125,7 @@ fn read_lines(alloc: Global, bytes: &[u8], header: Header) -> Result<Read, TextF
     let mut at = header.next;
     let mut line = header.line + 1;
     'lines: while let Some((text, next)) = line_from(bytes, at) {
-        let found = cut(text, &mut tokens)?;
+        let found = cut_enough(text, &mut tokens)?;
         match judge(alloc, header, &mut draft, line, &tokens, found)? {
             Step::Goes => {
                 at = next;

@@ -12,6 +12,7 @@ use Rattle.sm_reader.specs.declared.faults.TextFault.TheVariants.{OutOfMemory}
 use Rattle.sm_reader.specs.Right.{IsRight}
 use Rattle.sm_reader.proofs.ReadingLemmas.{goes_step, stops_step, refuses_step, ended_ok, ended_err, same_fault}
 use Rattle.sm_reader.proofs.RightLemmas.{nothing_right, goes_right}
+use Rattle.sm_reader.proofs.EnoughLemmas.{verdict_enough}
 use Rattle.sm_reader.proofs.ResultLemmas.{on_err}
 use Rattle.sm_reader.proofs.reading.read_lines.Goals as goal
 
@@ -32,13 +33,14 @@ lines-preserved c =
     let bytes = c.args.bytes.now in
     let old = c.lines.draft in
     let said = said_of h.kind old in
-    let toks : texts_of c.deref.result.now ≡ tokens c.in-Some.text.now = ap texts_of c.deref.ensures.value ∙ c.in_ok-found.ensures.cut in
+    let same : verdict_on h.kind h.format said c.lines.line (texts_of c.deref.result.now) ≡ verdict_on h.kind h.format said c.lines.line (tokens c.in-Some.text.now) =
+    ap (λ xs. verdict_on h.kind h.format said c.lines.line (texts_of xs)) c.deref.ensures.value ∙ verdict_enough _ _ c.in_ok-found.ensures.enough h.kind h.format said c.lines.line in
     let judged = rw c.in-Goes.is at c.in_ok-judge.ensures.judged in
     record {
       means = sym (goes_step bytes c.in-Some.text.now c.lines.at c.in-Some.next c.in-Some.ensures.line h.kind h.format h.line said c.lines.line (said_of h.kind c.judge.new.draft)
-          (ap (verdict_on h.kind h.format said c.lines.line) (sym toks) ∙ judged.0)) ∙ c.lines.invariant.means;
+          (sym same ∙ judged.0)) ∙ c.lines.invariant.means;
       draft = judged.1;
-      right = goes_right h.kind h.format said c.lines.line (tokens c.in-Some.text.now) (said_of h.kind c.judge.new.draft) c.lines.invariant.right (ap (verdict_on h.kind h.format said c.lines.line) (sym toks) ∙ judged.0);
+      right = goes_right h.kind h.format said c.lines.line (tokens c.in-Some.text.now) (said_of h.kind c.judge.new.draft) c.lines.invariant.right (sym same ∙ judged.0);
       fits = omega (arith, c.lines.invariant.fits, c.in-Some.ensures.later);
       within = c.in-Some.ensures.within;
     }
@@ -54,10 +56,11 @@ returns-in_err-judge-clause-fault c =
     let h = c.args.header in
     let bytes = c.args.bytes.now in
     let said = said_of h.kind c.lines.draft in
-    let toks : texts_of c.deref.result.now ≡ tokens c.in-Some.text.now = ap texts_of c.deref.ensures.value ∙ c.in_ok-found.ensures.cut in
+    let same : verdict_on h.kind h.format said c.lines.line (texts_of c.deref.result.now) ≡ verdict_on h.kind h.format said c.lines.line (tokens c.in-Some.text.now) =
+    ap (λ xs. verdict_on h.kind h.format said c.lines.line (texts_of xs)) c.deref.ensures.value ∙ verdict_enough _ _ c.in_ok-found.ensures.enough h.kind h.format said c.lines.line in
     let meaning = behind_header h.kind h.format h.line nothing (h.line + 1) h.next (lines (drop h.next bytes)) in
     let f = c.in_err-judge.field-0.0 in
-    let refused = subst (λ ts. IsRefusedBy (verdict_on h.kind h.format said c.lines.line ts) c.lines.line f) toks c.in_err-judge.ensures.refused in
+    let refused = subst (λ v. IsRefusedBy v c.lines.line f) same c.in_err-judge.ensures.refused in
     on_err (IsFaultOf meaning) c.from_residual-in_err-judge.result f c.from_residual-in_err-judge.ensures.1
     (same_fault meaning (behind_header h.kind h.format h.line said c.lines.line c.lines.at (lines (drop c.lines.at bytes))) f (sym c.lines.invariant.means)
     (refuses_step bytes c.in-Some.text.now c.lines.at c.in-Some.next c.in-Some.ensures.line h.kind h.format h.line said c.lines.line f refused))
@@ -69,12 +72,13 @@ returns-in_err-input-in-Stops-clause-fault c =
     let old = c.lines.draft in
     let new = c.judge.new.draft in
     let said = said_of h.kind old in
-    let toks : texts_of c.deref.result.now ≡ tokens c.in-Some.text.now = ap texts_of c.deref.ensures.value ∙ c.in_ok-found.ensures.cut in
+    let same : verdict_on h.kind h.format said c.lines.line (texts_of c.deref.result.now) ≡ verdict_on h.kind h.format said c.lines.line (tokens c.in-Some.text.now) =
+    ap (λ xs. verdict_on h.kind h.format said c.lines.line (texts_of xs)) c.deref.ensures.value ∙ verdict_enough _ _ c.in_ok-found.ensures.enough h.kind h.format said c.lines.line in
     let judged = rw c.in-Stops.is at c.in_ok-judge.ensures.judged in
     let meaning = behind_header h.kind h.format h.line nothing (h.line + 1) h.next (lines (drop h.next bytes)) in
     let means : meaning ≡ ended h.kind h.line (said_of h.kind new) c.in-Some.next (c.lines.line + 1) =
     sym c.lines.invariant.means
-    ∙ stops_step bytes c.in-Some.text.now c.lines.at c.in-Some.next c.in-Some.ensures.line h.kind h.format h.line said c.lines.line (ap (verdict_on h.kind h.format said c.lines.line) (sym toks) ∙ judged.0)
+    ∙ stops_step bytes c.in-Some.text.now c.lines.at c.in-Some.next c.in-Some.ensures.line h.kind h.format h.line said c.lines.line (sym same ∙ judged.0)
     ∙ ap (λ d. ended h.kind h.line (said_of h.kind d) c.in-Some.next (c.lines.line + 1)) (sym judged.1) in
     let f = c.in_err-input-in-Stops.field-0.0 in
     on_err (IsFaultOf meaning) c.from_residual-in_err-input-in-Stops.result f c.from_residual-in_err-input-in-Stops.ensures.1
@@ -88,10 +92,11 @@ returns-in-Stops-clause-read c =
     let old = c.lines.draft in
     let new = c.judge.new.draft in
     let said = said_of h.kind old in
-    let toks : texts_of c.deref.result.now ≡ tokens c.in-Some.text.now = ap texts_of c.deref.ensures.value ∙ c.in_ok-found.ensures.cut in
+    let same : verdict_on h.kind h.format said c.lines.line (texts_of c.deref.result.now) ≡ verdict_on h.kind h.format said c.lines.line (tokens c.in-Some.text.now) =
+    ap (λ xs. verdict_on h.kind h.format said c.lines.line (texts_of xs)) c.deref.ensures.value ∙ verdict_enough _ _ c.in_ok-found.ensures.enough h.kind h.format said c.lines.line in
     let judged = rw c.in-Stops.is at c.in_ok-judge.ensures.judged in
     sym c.lines.invariant.means
-    ∙ stops_step bytes c.in-Some.text.now c.lines.at c.in-Some.next c.in-Some.ensures.line h.kind h.format h.line said c.lines.line (ap (verdict_on h.kind h.format said c.lines.line) (sym toks) ∙ judged.0)
+    ∙ stops_step bytes c.in-Some.text.now c.lines.at c.in-Some.next c.in-Some.ensures.line h.kind h.format h.line said c.lines.line (sym same ∙ judged.0)
     ∙ ap (λ d. ended h.kind h.line (said_of h.kind d) c.in-Some.next (c.lines.line + 1)) (sym judged.1)
     ∙ ended_ok h.kind h.line new c.in-Some.next (c.lines.line + 1) c.in_ok-input-in-Stops.input c.in_ok-input-in-Stops.ensures.finished
 
