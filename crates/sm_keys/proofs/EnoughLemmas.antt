@@ -109,7 +109,7 @@ enough_without xs token i j h more =
     let later : i - first_tokens < j - first_tokens = omega (arith, h.behind, h.later) in
     let behind : (w : List (List ℕ)) → drop first_tokens (xs ++ w) ≡ ys ++ w = λ w. drop-append-le first_tokens xs w long in
     let twice : (w : List (List ℕ)) → has_repeated (drop first_tokens (xs ++ w)) ≡ true =
-        λ w. ap has_repeated (behind w) ∙ twice_repeated ys token (i - first_tokens) (j - first_tokens) later within there again w in
+    λ w. ap has_repeated (behind w) ∙ twice_repeated ys token (i - first_tokens) (j - first_tokens) later within there again w in
     record {
       first = take-append-le first_tokens xs more long ∙ sym (take-append-le first_tokens xs (token ∷ more) long);
       tests = λ test. ap (list_all test) (behind more) ∙ twice_tests ys token (i - first_tokens) (j - first_tokens) later within there again test more ∙ sym (ap (list_all test) (behind (token ∷ more)));

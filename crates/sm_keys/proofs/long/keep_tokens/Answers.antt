@@ -19,7 +19,7 @@ tokens-preserved c =
     record {
       enough = enough_step line (texts_of c.tokens.kept.items) c.tokens.from c.tokens.invariant.enough token.start token.stop leading (texts_of c.keep.new.kept.items) c.in_ok-keep.ensures;
       bad = elim c.if-bad.branch [
-          | then-bad w ↦ bad_already c.tokens.bad here c.if-bad.bad rest all w.if-bad.true (w.bad-is ∙ w.if-bad.true) told
-          | else-bad w ↦ bad_here c.tokens.bad here c.if-bad.bad rest all w.if-bad.false (w.bad-is ∙ c.in-Some.ensures.bad) told
-        ];
+        | then-bad w ↦ bad_already c.tokens.bad here c.if-bad.bad rest all w.if-bad.true (w.bad-is ∙ w.if-bad.true) told
+        | else-bad w ↦ bad_here c.tokens.bad here c.if-bad.bad rest all w.if-bad.false (w.bad-is ∙ c.in-Some.ensures.bad) told
+      ];
     }
