@@ -20,6 +20,7 @@ pub mod LawsProved
 pub mod WitnessLemmas
 pub mod VectorLaws
 pub mod TakingLemmas
+pub mod FullLemmas
 pub mod CrossLemmas
 pub mod TableLemmas
 pub mod RowLemmas

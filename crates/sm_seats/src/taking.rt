@@ -1,6 +1,6 @@
 //! The seats that an assignment takes.
 
-ghost use Rattle.std.specs.Prelude.{◌≡◌, ◌<◌, length, replicate, None, IfOk};
+ghost use Rattle.std.specs.Prelude.{◌≡◌, ℕ, ◌+◌, ◌<◌, ◌≤◌, false, length, replicate, None, IfOk};
 ghost use Rattle.sm_instance.specs.Written.{Written, lists_of};
 ghost use Rattle.sm_instance.specs.Sound.{IsInstance};
 ghost use Rattle.sm_instance.specs.Matching.{held, is_at as is_written_at, IsAssignment, IsMatching};
@@ -61,15 +61,17 @@ fn seat_all(
     for seat in 0..market.reviewers() {
         let (r, number) = seats[seat as usize];
         if number == 1 {
-            seat_in_order(lists, market, (seat, r), a, places);
+            seat_in_order(lists, market, seats, (seat, r), a, places);
         }
     }
 }
 
-/// Seats those at a reviewer in its order, from its first seat on. The first seat is given with its reviewer.
+/// Seats those at a reviewer in its order, from its first seat on, until all its seats are taken. The first seat is given with its
+/// reviewer.
 fn seat_in_order(
     lists: &WrittenLists,
     market: &Market,
+    seats: &[(u32, u32)],
     first: (u32, u32),
     a: &Assignment,
     places: &mut [Option<u32>],
@@ -78,6 +80,7 @@ fn seat_in_order(
     requires instance { IsInstance written }
     requires lists { lists.now ≡ lists_of written.proposers }
     requires market { market.now ≡ seat_market written }
+    requires seats { seats.now ≡ seats_of written }
     requires limits { IsWithinLimits market.now }
     requires first { first.0 ≡ seats_before written first.1 }
     requires has_seat { 0 < seat_count written first.1 }
@@ -92,8 +95,20 @@ fn seat_in_order(
         if is_at(lists, a, q, r) {
             places[q as usize] = Some(market.reviewer_cross(seat, place) + before);
             before += 1;
+            if !is_seat_of(seats, seat + before, r) {
+                return;
+            }
         }
     }
+}
+
+/// Is this a seat of a reviewer?
+fn is_seat_of(seats: &[(u32, u32)], seat: u32, r: u32) -> bool
+    ghost written: { Written }
+    requires { seats.now ≡ seats_of written }
+    ensures { result ≡ false → (k : ℕ) → seat ≡ seats_before written r + k → seat_count written r ≤ k }
+{
+    (seat as usize) < seats.len() && seats[seat as usize].0 == r
 }
 
 /// The place that a proposer holds.

@@ -15,7 +15,7 @@ seat_in_order-requires g c =
     let there = seat_below g.written c.args.market.now c.requires.1.1.0 c.loop-seat.seat (omega arith) in
     let s = first_named g.written c.args.seats.now c.loop-seat.seat c.requires.1.1.1.0 there c.if-number-eq1.true in
     let is = s.is in
-    (c.requires.0, (c.requires.1.0, (c.requires.1.1.0, (c.requires.1.1.1.1.1.0, (omega arith, (s.below, (c.requires.1.1.1.1.0, c.loop-seat.invariant.long)))))))
+    (c.requires.0, (c.requires.1.0, (c.requires.1.1.0, (c.requires.1.1.1.0, (c.requires.1.1.1.1.1.0, (omega arith, (s.below, (c.requires.1.1.1.1.0, c.loop-seat.invariant.long))))))))
 
 pub loop-seat-preserved : goal.loop-seat-preserved
 loop-seat-preserved g c =
