@@ -59,6 +59,13 @@ use sm_theory::Choice;
 use sm_words::{Form, Job};
 use std::alloc::{AllocError, Global};
 
+/// What was read, and the form in which its answer is written.
+#[derive(Clone, Copy)]
+pub(crate) struct Reading<'a> {
+    pub(crate) read: &'a Read,
+    pub(crate) form: Form,
+}
+
 /// An instance with two sides that was read, what is counted of its seats, and the form in which its answer is written.
 #[derive(Drop)]
 pub(crate) struct Counted<'a> {
@@ -74,8 +81,7 @@ pub(crate) fn perform<K: Sink>(
     alloc: Global,
     job: &Job,
     bytes: Vec<u8>,
-    read: &Read,
-    form: Form,
+    reading: &Reading<'_>,
     tallies: &mut Vec<Box<dyn Tally>>,
     sink: &mut K,
 ) -> Result<Status, Stop>
@@ -83,10 +89,10 @@ pub(crate) fn perform<K: Sink>(
     requires answers { judges_answer (job_of job.now) ≡ false }
     requires short { length bytes.items ≤ most_bytes }
     requires accepted { accepted (job_of job.now) bytes.items
-        ≡ judged (job_of job.now) (read_of read.now) }
+        ≡ judged (job_of job.now) (read_of reading.now.read.now) }
     requires bounds { IsInBounds (job_of job.now) }
-    requires form { IsFormFor (job_of job.now) form }
-    ensures wrote { IfOk result (λ status. Wrote form (IsAnswer (map
+    requires form { IsFormFor (job_of job.now) reading.now.form }
+    ensures wrote { IfOk result (λ status. Wrote reading.now.form (IsAnswer (map
         (λ t. shown_as (kind t) (shown t)) tallies.old.items) (job_of job.now) bytes.items)
         (K.held sink.old) (K.held sink.new) (K.faults sink.old) (K.faults sink.new) status) }
     ensures stop { IfErr result (λ stop. StopsBy (λ _. ⊥)
@@ -95,15 +101,15 @@ pub(crate) fn perform<K: Sink>(
     ensures later { K.faults sink.old ≤ K.faults sink.new }
 {
     let behind = text_for(alloc, job, bytes);
-    match &read.input {
+    match &reading.read.input {
         Input::Two(instance) => {
             if takes_rooms_alone(job) {
-                return Err(refuse_sides(read, instance));
+                return Err(refuse_sides(reading.read, instance));
             }
-            let given = with_counts(alloc, read, instance, form)?;
+            let given = with_counts(alloc, reading, instance)?;
             perform_on_two(alloc, job, &behind, &given, tallies, sink)
         }
-        Input::Room(persons) => perform_on_persons(alloc, job, read, persons, form, sink),
+        Input::Room(persons) => perform_on_persons(alloc, job, reading, persons, sink),
     }
 }
 
@@ -130,26 +136,26 @@ fn text_for(alloc: Global, job: &Job, bytes: Vec<u8>) -> Vec<u8>
 /// An instance with what is counted of its seats, where they aren't too many.
 fn with_counts<'a>(
     alloc: Global,
-    read: &'a Read,
+    reading: &Reading<'a>,
     instance: &'a Instance,
-    form: Form,
 ) -> Result<Counted<'a>, Stop>
-    requires { read.now.input ≡ Two instance.now }
+    requires { reading.now.read.now.input ≡ Two instance.now }
     ensures instance { IsInstance instance.now }
-    ensures read { IfOk result (λ given. given.read.now ≡ read.now) }
-    ensures form { IfOk result (λ given. given.form ≡ form) }
+    ensures read { IfOk result (λ given. given.read.now ≡ reading.now.read.now) }
+    ensures form { IfOk result (λ given. given.form ≡ reading.now.form) }
     ensures counted { IfOk result
-        (λ given. IsCounted read.now.input given.instance.now given.counts) }
-    ensures none { OnOk result (too_many_in read.now.input ≡ None) }
-    ensures stop { IfErr result (λ stop. StopsBy (λ _. ⊥) (IsTooMany read.now.input) ⊥ stop) }
+        (λ given. IsCounted reading.now.read.now.input given.instance.now given.counts) }
+    ensures none { OnOk result (too_many_in reading.now.read.now.input ≡ None) }
+    ensures stop { IfErr result
+        (λ stop. StopsBy (λ _. ⊥) (IsTooMany reading.now.read.now.input) ⊥ stop) }
 {
     let _count = instance.proposer_count();
     let counts = counts_of(alloc, instance)?;
     Ok(Counted {
-        read,
+        read: reading.read,
         instance,
         counts,
-        form,
+        form: reading.form,
     })
 }
 
@@ -203,33 +209,31 @@ fn perform_on_two<K: Sink>(
 fn perform_on_persons<K: Sink>(
     alloc: Global,
     job: &Job,
-    read: &Read,
+    reading: &Reading<'_>,
     persons: &Persons,
-    form: Form,
     sink: &mut K,
 ) -> Result<Status, Stop>
     requires reads { reads_input (job_of job.now) ≡ true }
     requires answers { judges_answer (job_of job.now) ≡ false }
-    requires room { read.now.input ≡ Room persons.now }
+    requires room { reading.now.read.now.input ≡ Room persons.now }
     requires bounds { IsInBounds (job_of job.now) }
-    requires form { IsFormFor (job_of job.now) form }
+    requires form { IsFormFor (job_of job.now) reading.now.form }
     ensures wrote { (text : List ℕ) (tallies : List Shown)
-        → accepted (job_of job.now) text ≡ judged (job_of job.now) (read_of read.now)
-        → IfOk result (λ status. Wrote form (IsAnswer tallies (job_of job.now) text)
+        → accepted (job_of job.now) text ≡ judged (job_of job.now) (read_of reading.now.read.now)
+        → IfOk result (λ status. Wrote reading.now.form (IsAnswer tallies (job_of job.now) text)
         (K.held sink.old) (K.held sink.new) (K.faults sink.old) (K.faults sink.new) status) }
     ensures stop { (text : List ℕ)
-        → accepted (job_of job.now) text ≡ judged (job_of job.now) (read_of read.now)
+        → accepted (job_of job.now) text ≡ judged (job_of job.now) (read_of reading.now.read.now)
         → IfErr result (λ stop. StopsBy (λ _. ⊥) (IsRefused (job_of job.now) text) ⊥ stop) }
     ensures unwritten { OnErr result (sink.new ≡ sink.old) }
     ensures later { K.faults sink.old ≤ K.faults sink.new }
 {
+    let input = &reading.read.input;
     match job {
-        Job::Solve(None) => Ok(solve_roommates(alloc, &read.input, persons, form, sink)?),
-        Job::List(after, limit) => {
-            list_persons(alloc, &read.input, persons, after, *limit, form, sink)
-        }
-        Job::Rest => Ok(show_rest(alloc, &read.input, persons, form, sink)?),
-        Job::Export => Ok(export(alloc, &read.input, sink)?),
+        Job::Solve(None) => Ok(solve_roommates(alloc, input, persons, reading.form, sink)?),
+        Job::List(after, limit) => list_persons(alloc, reading, persons, after, *limit, sink),
+        Job::Rest => Ok(show_rest(alloc, input, persons, reading.form, sink)?),
+        Job::Export => Ok(export(alloc, input, sink)?),
         Job::Solve(Some(_))
         | Job::Reduced
         | Job::Rotations
@@ -240,7 +244,7 @@ fn perform_on_persons<K: Sink>(
         | Job::Join
         | Job::Survey(_)
         | Job::Median
-        | Job::Route => Err(Stop::Refused(RefusalKind::WrongKind, read.header_line)),
+        | Job::Route => Err(Stop::Refused(RefusalKind::WrongKind, reading.read.header_line)),
         Job::Check | Job::Make(_, _, _, _) => unreachable!(),
     }
 }
@@ -295,18 +299,17 @@ pub(crate) fn solve_roommates<K: Sink>(
 /// Does `list` on roommates.
 fn list_persons<K: Sink>(
     alloc: Global,
-    input: &Input,
+    reading: &Reading<'_>,
     persons: &Persons,
     after: &Option<Vec<u32>>,
     limit: u32,
-    form: Form,
     sink: &mut K,
 ) -> Result<Status, Stop>
-    requires room { input.now ≡ Room persons.now }
+    requires room { reading.now.read.now.input ≡ Room persons.now }
     requires limit { IsLimit limit }
-    ensures wrote { IfOk result (λ status. Wrote form
-        (With Status.Done (IsShown input.now (IsRoomListAnswer (cursor_in after.now) limit
-        persons.now)))
+    ensures wrote { IfOk result (λ status. Wrote reading.now.form
+        (With Status.Done (IsShown reading.now.read.now.input (IsRoomListAnswer
+        (cursor_in after.now) limit persons.now)))
         (K.held sink.old) (K.held sink.new) (K.faults sink.old) (K.faults sink.new) status) }
     ensures stop { IfErr result (λ stop.
         StopsBy (λ _. ⊥) (IsBadCursor (cursor_in after.now) (Room persons.now)) ⊥ stop) }
@@ -316,8 +319,8 @@ fn list_persons<K: Sink>(
     if !is_cursor(count_of(persons), after) {
         return Err(Stop::Refused(RefusalKind::BadCursor, 0));
     }
-    let lines = room_list_lines(alloc, input, persons, after, limit)?;
-    Ok(write(alloc, sink, form, Status::Done, lines))
+    let lines = room_list_lines(alloc, &reading.read.input, persons, after, limit)?;
+    Ok(write(alloc, sink, reading.form, Status::Done, lines))
 }
 
 /// Does `rest`.

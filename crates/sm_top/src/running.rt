@@ -18,7 +18,7 @@ use crate::checking::check_answer;
 use crate::giving::text_given;
 use crate::input::read_all;
 use crate::making::show_made;
-use crate::performing::perform;
+use crate::performing::{Reading, perform};
 use crate::refusing::{judges_answer, read_for};
 use crate::status::Status;
 use crate::stop::{RefusedLine, Stop, UsageLine, no_detail};
@@ -234,7 +234,8 @@ fn answer<K: Sink>(
     if judges_answer(job) {
         return check_answer(alloc, &bytes, &read, form, sink);
     }
-    perform(alloc, job, bytes, &read, form, tallies, sink)
+    let reading = Reading { read: &read, form };
+    perform(alloc, job, bytes, &reading, tallies, sink)
 }
 
 /// Says why there is no answer.

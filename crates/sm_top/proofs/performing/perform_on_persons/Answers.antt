@@ -17,21 +17,21 @@ pub returns-in_ok-solve_roommates-in-Solve-None-clause-wrote : goal.returns-in_o
 returns-in_ok-solve_roommates-in-Solve-None-clause-wrote g c = λ text tallies accepted.
     let none = rw c.in-Solve-None.is at c.in-Solve-None.field-0-is in
     let job : job_of c.args.job.now ≡ Solve None = ap job_of c.in-Solve-None.is ∙ ap Solve none in
-    let read = read_of c.args.read.now in
+    let read = read_of c.args.reading.now.read.now in
     let judged = rw job at accepted in
     let ok = room_accepted (Solve None) text read c.args.persons.now c.requires.room judged refl in
     rw job (answer_over (Solve None) text read (IsSolved None) _ _ _ _ _ ok c.in_ok-solve_roommates-in-Solve-None.ensures.wrote)
 
 pub returns-in_ok-show_rest-in-Rest-clause-wrote : goal.returns-in_ok-show_rest-in-Rest-clause-wrote
 returns-in_ok-show_rest-in-Rest-clause-wrote g c = λ text tallies accepted.
-    let read = read_of c.args.read.now in
+    let read = read_of c.args.reading.now.read.now in
     let judged = rw c.in-Rest.is at accepted in
     let ok = room_accepted Rest text read c.args.persons.now c.requires.room judged refl in
     rw c.in-Rest.is (wrote_room Rest text read c.args.persons.now IsRest Done _ _ _ _ _ ok c.requires.room c.in_ok-show_rest-in-Rest.ensures.wrote)
 
 pub returns-in-List-clause-wrote : goal.returns-in-List-clause-wrote
 returns-in-List-clause-wrote g c = λ text tallies accepted.
-    let read = read_of c.args.read.now in
+    let read = read_of c.args.reading.now.read.now in
     let persons = c.args.persons.now in
     let after = cursor_in c.in-List.after in
     let job = JobData.List after c.in-List.limit in
@@ -42,7 +42,7 @@ returns-in-List-clause-wrote g c = λ text tallies accepted.
 
 pub returns-in-List-clause-stop : goal.returns-in-List-clause-stop
 returns-in-List-clause-stop g c = λ text accepted.
-    let read = read_of c.args.read.now in
+    let read = read_of c.args.reading.now.read.now in
     let persons = c.args.persons.now in
     let after = cursor_in c.in-List.after in
     let job = JobData.List after c.in-List.limit in
@@ -53,8 +53,8 @@ returns-in-List-clause-stop g c = λ text accepted.
 
 pub returns-in_ok-export-in-Export-clause-wrote : goal.returns-in_ok-export-in-Export-clause-wrote
 returns-in_ok-export-in-Export-clause-wrote g c = λ text tallies accepted.
-    let read = read_of c.args.read.now in
+    let read = read_of c.args.reading.now.read.now in
     let judged = rw c.in-Export.is at accepted in
     let formed = rw c.in-Export.is at c.requires.form in
     let ok = room_accepted Export text read c.args.persons.now c.requires.room judged refl in
-    rw c.in-Export.is (wrote_export tallies text read c.args.form _ _ _ _ _ formed ok c.in_ok-export-in-Export.ensures.wrote)
+    rw c.in-Export.is (wrote_export tallies text read c.args.reading.now.form _ _ _ _ _ formed ok c.in_ok-export-in-Export.ensures.wrote)
