@@ -23,7 +23,8 @@ use Rattle.sm_words.specs.declared.jobs.Form.{Form}
 use Rattle.sm_words.specs.Jobs.{JobData, Check}
 use Rattle.sm_top.specs.declared.status.Status.{Status}
 use Rattle.sm_top.specs.Texts.{plain_refusal}
-use Rattle.sm_top.specs.Accepting.{judges_answer, too_many_in, first_refusal, judged, accepted, IsTooMany}
+use Rattle.sm_words.specs.Takes.{judges_answer}
+use Rattle.sm_top.specs.Accepting.{too_many_in, first_refusal, judged, accepted, IsTooMany}
 use Rattle.sm_top.specs.Checked.{verdict_lines, status_by}
 use Rattle.sm_top.specs.Outcome.{IsAnswer, IsRefused, not_accepted, by_job}
 use Rattle.sm_top.specs.Wrote.{Wrote, With}

@@ -29,7 +29,8 @@ use Rattle.sm_answer_roommates.specs.RoomAnswer.{IsMatched, IsUnmatchable}
 use Rattle.sm_top.specs.declared.status.Status.{Status}
 use Rattle.sm_top.specs.declared.status.Status.TheVariants.{Done, NoneExists}
 use Rattle.sm_top.specs.Texts.{RefusalData, plain_refusal}
-use Rattle.sm_top.specs.Accepting.{reads_input, is_two_sided, takes_kind, takes_rooms_alone, too_many_in, too_many_seats, first_refusal, judged, accepted, IsTooMany}
+use Rattle.sm_words.specs.Takes.{reads_input, is_two_sided, takes_kind, takes_rooms_alone}
+use Rattle.sm_top.specs.Accepting.{too_many_in, too_many_seats, first_refusal, judged, accepted, IsTooMany}
 use Rattle.sm_tally.specs.Fold.{Shown}
 use Rattle.sm_words.specs.Words.{usual_limit}
 use Rattle.sm_answer_survey.specs.SurveyAnswer.{IsSurveyAnswer}

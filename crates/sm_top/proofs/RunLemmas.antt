@@ -32,7 +32,8 @@ use Rattle.sm_make.specs.declared.shape.Shape.{Shape}
 use Rattle.sm_check_clauses.specs.declared.verdicts.Verdict.{Verdict}
 use Rattle.sm_check_clauses.specs.declared.verdicts.Verdict.TheVariants as verdict
 use Rattle.sm_top.specs.Checked.{status_by}
-use Rattle.sm_top.specs.Accepting.{reads_input, accepted, behind_text}
+use Rattle.sm_words.specs.Takes.{reads_input}
+use Rattle.sm_top.specs.Accepting.{accepted, behind_text}
 use Rattle.sm_top.specs.Forms.{given_text, form_asked}
 use Rattle.sm_top.specs.Outcome.{OfTwo, OfRoom, IsSolved, IsRegretted, IsSummary, IsMade, IsWeighed, IsMiddle, IsAnswerOver, IsAnswer, IsRefused, IsRefusedIn, Outcome, not_accepted, faulty_words, refused, answered}
 use Rattle.sm_top.specs.Input.{IsReadWhole, ReadWhole, IsTooLong}

@@ -20,7 +20,8 @@ use Rattle.sm_top.specs.declared.status.Status.{Status}
 use Rattle.sm_top.specs.declared.status.Status.TheVariants.{Done, Refused, Usage, NoneExists}
 use Rattle.sm_top.specs.Texts.{RefusalData, plain_refusal, with_detail, usage_line, refused_line}
 use Rattle.sm_top.specs.Checked.{IsChecked, IsUnreadable}
-use Rattle.sm_top.specs.Accepting.{reads_input, accepted, IsUnaccepted}
+use Rattle.sm_words.specs.Takes.{reads_input}
+use Rattle.sm_top.specs.Accepting.{accepted, IsUnaccepted}
 use Rattle.sm_top.specs.Forms.{given_text}
 use Rattle.sm_answer_solve.specs.Solution.{IsSolution}
 use Rattle.sm_answer_rotations.specs.Reduction.{IsReduction}

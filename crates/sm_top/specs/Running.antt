@@ -10,7 +10,7 @@ use Rattle.sm_top.specs.declared.status.Status.{Status}
 use Rattle.sm_top.specs.declared.status.Status.TheVariants.{Refused, Usage, OutOfMemory, ReadFault, WriteFault}
 use Rattle.sm_text.specs.Limits.{most_bytes}
 use Rattle.sm_tally.specs.Fold.{Shown}
-use Rattle.sm_top.specs.Accepting.{reads_input}
+use Rattle.sm_words.specs.Takes.{reads_input}
 use Rattle.sm_top.specs.Input.{IsReadWhole}
 use Rattle.sm_top.specs.Texts.{RefusalData}
 use Rattle.sm_top.specs.Forms.{given_text, written_text, form_asked}

@@ -10,7 +10,7 @@ use Rattle.sm_top.specs.declared.status.Status.TheVariants.{Refused, Usage, OutO
 use Rattle.sm_top.specs.declared.stop.Stop.{Stop}
 use Rattle.sm_top.specs.declared.stop.Stop.TheVariants as stop
 use Rattle.sm_tally.specs.Fold.{Shown}
-use Rattle.sm_top.specs.Accepting.{reads_input}
+use Rattle.sm_words.specs.Takes.{reads_input}
 use Rattle.sm_top.specs.Input.{IsReadWhole}
 use Rattle.sm_top.specs.Texts.{RefusalData, plain_refusal, with_detail, refusal_fields, usage_line, refused_line}
 use Rattle.sm_top.specs.Forms.{given_text}

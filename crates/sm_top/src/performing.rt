@@ -9,7 +9,8 @@ ghost use Rattle.sm_text.specs.Limits.{most_bytes};
 ghost use Rattle.sm_text.specs.declared.refusal.RefusalKind.TheVariants.{WrongKind};
 ghost use Rattle.sm_text.specs.Lines.{lines};
 ghost use Rattle.sm_words.specs.Jobs.{job_of, IsFormFor, IsInBounds, IsLimit};
-ghost use Rattle.sm_top.specs.Accepting.{reads_input, takes_text, IsTextFor, judges_answer, judged, accepted, takes_rooms_alone, too_many_in, IsTooMany};
+ghost use Rattle.sm_words.specs.Takes.{reads_input, takes_text, IsTextFor, judges_answer, takes_rooms_alone};
+ghost use Rattle.sm_top.specs.Accepting.{judged, accepted, too_many_in, IsTooMany};
 ghost use Rattle.sm_top.specs.Counted.{IsCounted};
 ghost use Rattle.sm_answer_solve.specs.Solution.{IsSolution};
 ghost use Rattle.sm_answer_roommates.specs.RestAnswer.{IsRest};
@@ -31,7 +32,7 @@ ghost use Rattle.sm_top.specs.Wrote.{Wrote, With};
 use crate::behind::given_behind;
 use crate::choosing::choose;
 use crate::exporting::export;
-use crate::refusing::{counts_of, takes_rooms_alone, takes_text};
+use crate::refusing::counts_of;
 use crate::status::Status;
 use crate::stop::Stop;
 use crate::writing::write;
@@ -56,7 +57,7 @@ use sm_seats::{SeatCounts, Seats};
 use sm_tally::Tally;
 use sm_text::RefusalKind;
 use sm_theory::Choice;
-use sm_words::{Form, Job};
+use sm_words::{Form, Job, takes_rooms_alone, takes_text};
 use std::alloc::{AllocError, Global};
 
 /// What was read, and the form in which its answer is written.

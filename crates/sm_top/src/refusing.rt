@@ -6,7 +6,7 @@ ghost use Rattle.sm_text.specs.declared.refusal.RefusalKind.TheVariants.{AfterEn
 ghost use Rattle.sm_text.specs.Lines.{lines};
 ghost use Rattle.sm_text.specs.Tokens.{tokens};
 ghost use Rattle.sm_reader.specs.InstanceText.{instance_text, read_of};
-ghost use Rattle.sm_top.specs.Accepting.{first_saying, has_tokens, takes_text, judges_answer, IsTooMany, judged, accepted, IsUnaccepted, takes_rooms_alone};
+ghost use Rattle.sm_top.specs.Accepting.{first_saying, has_tokens, IsTooMany, judged, accepted, IsUnaccepted};
 ghost use Rattle.sm_seats.specs.Counted.{AreSeatCounts};
 ghost use Rattle.sm_seats.specs.SeatEntries.{AreFewSeats, first_too_many};
 ghost use Rattle.sm_instance.specs.declared.inputs.Input.TheVariants.{Two};
@@ -18,7 +18,7 @@ use sm_instance::Instance;
 use sm_reader::{Read, TextFault, read_instance};
 use sm_seats::{SeatCounts, SeatsFault, seat_counts};
 use sm_text::{RefusalKind, TokenAt, line_at, token_at};
-use sm_words::Job;
+use sm_words::{Job, takes_text};
 use std::alloc::Global;
 
 /// Reads an input for a job, where it isn't refused before its kind and its seats are looked at.
@@ -97,46 +97,5 @@ fn says_something(line: &[u8]) -> bool
         TokenAt::Run(_, _) => true,
         TokenAt::Mark(_) => true,
         TokenAt::Bad(_) => true,
-    }
-}
-
-/// Does a job take text behind `end`?
-pub(crate) fn takes_text(job: &Job) -> bool
-    ensures { result ≡ takes_text (job_of job.now) }
-{
-    match job {
-        Job::Solve(_)
-        | Job::Reduced
-        | Job::Rotations
-        | Job::List(_, _)
-        | Job::Pairs
-        | Job::Regret
-        | Job::Weight(_)
-        | Job::Survey(_)
-        | Job::Make(_, _, _, _)
-        | Job::Rest
-        | Job::Median
-        | Job::Export => false,
-        Job::Meet | Job::Join | Job::Check | Job::Route => true,
-    }
-}
-
-/// Does a job take roommates alone?
-pub(crate) fn takes_rooms_alone(job: &Job) -> bool
-    ensures { result ≡ takes_rooms_alone (job_of job.now) }
-{
-    match job {
-        Job::Rest => true,
-        _ => false,
-    }
-}
-
-/// Does a job judge the answer behind `end`?
-pub(crate) fn judges_answer(job: &Job) -> bool
-    ensures { result ≡ judges_answer (job_of job.now) }
-{
-    match job {
-        Job::Check => true,
-        _ => false,
     }
 }

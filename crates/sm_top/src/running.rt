@@ -6,7 +6,7 @@ ghost use Rattle.sm_io.specs.Faults.{Rose};
 ghost use Rattle.sm_words.specs.Jobs.{job_of, IsFormFor, IsInBounds};
 ghost use Rattle.sm_words.specs.Words.{texts, words_meaning};
 ghost use Rattle.sm_tally.specs.Fold.{shown_as};
-ghost use Rattle.sm_top.specs.Accepting.{reads_input};
+ghost use Rattle.sm_words.specs.Takes.{reads_input};
 ghost use Rattle.sm_top.specs.Outcome.{IsAnswer, IsRefused};
 ghost use Rattle.sm_top.specs.Running.{reads, Answers, AnswersAccepted};
 ghost use Rattle.sm_top.specs.Steps.{Serves, IsRefusal, IsReadFault, SaysStop};
@@ -19,7 +19,7 @@ use crate::giving::text_given;
 use crate::input::read_all;
 use crate::making::show_made;
 use crate::performing::{Reading, perform};
-use crate::refusing::{judges_answer, read_for};
+use crate::refusing::read_for;
 use crate::status::Status;
 use crate::stop::{RefusedLine, Stop, UsageLine, no_detail};
 use crate::writing::write;
@@ -27,7 +27,7 @@ use sm_io::{Sink, Source};
 use sm_make::make;
 use sm_tally::Tally;
 use sm_text::RefusalKind;
-use sm_words::{Form, Job, WordsFault, read_words};
+use sm_words::{Form, Job, WordsFault, judges_answer, read_words};
 use std::alloc::Global;
 
 /// Does all that the program does, and says how it ended.

@@ -8,6 +8,8 @@
 mod jobs;
 mod operands;
 mod reading;
+mod taking;
 
 pub use jobs::{Form, Job, WordsFault};
 pub use reading::{USUAL_LIMIT, read_words};
+pub use taking::{judges_answer, takes_rooms_alone, takes_text};

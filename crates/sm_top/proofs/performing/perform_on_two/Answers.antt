@@ -1,5 +1,5 @@
 use Rattle.std.proofs.Common.{[], ap, sym, subst}
-use Rattle.sm_top.specs.Accepting.{takes_text}
+use Rattle.sm_words.specs.Takes.{takes_text}
 use Rattle.sm_reader.specs.InstanceText.{read_of}
 use Rattle.std.proofs.lemmas.Result.{IfOk-weaker}
 use Rattle.sm_words.specs.Jobs.{JobData, Solve, Reduced, Rotations, Pairs, Regret, Weight, Meet, Join, Survey, Median, Route}
