@@ -1,6 +1,6 @@
 """One side of an instance as a table has it: its agents, how many each takes, and whom each lists."""
 import difflib
-import hashlib
+from array import array
 from decimal import Decimal, InvalidOperation
 
 from .command import Fault
@@ -23,10 +23,8 @@ class Form:
 
 
 class Side:
-    """The agents of one table, in the order of their rows: originals, capacities, lines, and their cells with choices.
-
-    `cells` has for each agent its cells as triples: the line, the text, and the number as it is written, or None where there is
-    no number and the order counts.
+    """The agents of one table, in the order of their rows: originals, capacities, lines, and the numbers of their rows with
+    choices. Cells with a text of `left_out` count as empty.
     """
 
     def __init__(self, table, form, letter, skipped, capacity):
@@ -44,8 +42,8 @@ class Side:
         if form.kind == LONG and len(self.columns) > 3:
             raise self.fault('a table with a row for each choice has a column with names, one with choices and at most one with '
                              f'numbers; --skip leaves others out, as {self.titles[self.columns[3]]!r}')
-        self.originals, self.lines, self.capacities, self.cells = [], [], [], []
-        self.numbers, self.known = {}, {}
+        self.originals, self.lines, self.capacities, self.rows = [], [], [], []
+        self.numbers, self.known, self.left_out = {}, {}, set()
         self.lot = None
 
     def fault(self, text):
@@ -64,13 +62,13 @@ class Side:
         self.originals.append(name)
         self.lines.append(line)
         self.capacities.append(capacity)
-        self.cells.append([])
+        self.rows.append(array('L'))
 
     def read(self, faults):
         """Takes all rows."""
         again = []
-        for row in self.table.rows:
-            width = len(self.titles)
+        width = len(self.titles)
+        for place, row in enumerate(self.table.rows):
             cells = row.cells + [''] * (width - len(row.cells))
             name = cells[self.columns[0]]
             if any(cells[width:]):
@@ -82,25 +80,30 @@ class Side:
                     faults.add(self.file, row.line, f'there are more than {MOST_AGENTS:,} rows of agents')
                     return
                 self.add(name, row.line, self.capacity_in(cells, row.line, faults))
-                self.take(self.cells[-1], cells, row.line)
+                self.rows[-1].append(place)
             elif self.form.kind == LONG:
                 number = self.number(name)
                 if self.capacity is not None and self.capacity_in(cells, row.line, faults) != self.capacities[number]:
                     faults.add(self.file, row.line, f'{name!r} has another capacity on line {self.lines[number]}')
-                self.take(self.cells[number], cells, row.line)
+                self.rows[number].append(place)
             else:
                 again.append((row.line, name))
         self.tell_again(again, faults)
 
-    def take(self, own, cells, line):
-        """Takes the choices of a row."""
-        cells = [cells[i] for i in self.columns[1:]]
-        if self.form.kind == WIDE:
-            own += [(line, it, None) for it in cells if it]
-        elif self.form.kind == RANKS:
-            own += [(line, self.titles[i], it) for i, it in zip(self.columns[1:], cells) if it]
-        elif cells[0]:
-            own.append((line, cells[0], cells[1] if len(cells) > 1 else None))
+    def cells_of(self, agent):
+        """The cells with choices of an agent as triples: the line, the text, and the number as it is written, or None where there
+        is no number and the order counts.
+        """
+        for row in map(self.table.rows.__getitem__, self.rows[agent]):
+            own = row.cells + [''] * (len(self.titles) - len(row.cells))
+            cells = [own[i] for i in self.columns[1:]]
+            if self.form.kind == WIDE:
+                own = [(row.line, it, None) for it in cells if it]
+            elif self.form.kind == RANKS:
+                own = [(row.line, self.titles[i], it) for i, it in zip(self.columns[1:], cells) if it]
+            else:
+                own = [(row.line, cells[0], cells[1] if len(cells) > 1 else None)] if cells[0] else []
+            yield from (it for it in own if it[1] not in self.left_out)
 
     def tell_again(self, again, faults):
         """Tells of rows whose name has a row already; where most have, that these are rows of choices."""
@@ -136,20 +139,24 @@ class Side:
             unknown = [it for it in titles if other.number(it) is None]
             for title in unknown:
                 faults.add(self.file, self.table.header.line, f'the column {title!r} isn\'t in {other.file}; --skip {title!r} leaves it out')
-            self.cells = [[it for it in own if it[1] not in unknown] for own in self.cells]
+            self.left_out.update(unknown)
             return
         titled = next((self.titles[i] for i in self.columns[1:] if other.number(self.titles[i]) is not None), None)
-        columns = {i: [row.cells[i] for row in self.table.rows if i < len(row.cells) and row.cells[i]] for i in self.columns[1:]}
+        columns = {i: [] for i in self.columns[1:]}
+        for row in self.table.rows:
+            for i, cells in columns.items():
+                if i < len(row.cells) and row.cells[i]:
+                    cells.append(row.cells[i])
         whole = [it for cells in columns.values() for it in cells]
         if titled is not None:
             numbers = all(number_of(it) is not None for it in whole)
             faults.add(self.file, self.table.header.line, f'the first row has to name the columns, and has {titled!r} of {other.file}' +
                        (f'; --ranks {self.form.word} takes a table of ranks' if numbers else '; is a row of titles missing?'))
-            self.cells = [[] for _ in self.cells]
+            self.rows = [array('L') for _ in self.rows]
         elif self.strange(whole, other):
             faults.add(self.file, self.table.header.line, f'{self.strange(whole, other)} choice of this table is in {other.file}; '
                        f'{shown(self.unknown(whole, other))} isn\'t' + self.strange_hint(whole, other))
-            self.cells = [[] for _ in self.cells]
+            self.rows = [array('L') for _ in self.rows]
         else:
             for i, cells in columns.items():
                 how = self.strange(cells, other)
@@ -159,8 +166,7 @@ class Side:
                         all(NUMBER.match(it) for it in cells) else ''
                     faults.add(self.file, self.table.header.line, f'the column {title!r} has {how} name of {other.file}; '
                                f'{shown(self.unknown(cells, other))} is none; --skip {title!r} leaves the column out{places}')
-                    left_out = set(cells)
-                    self.cells = [[it for it in own if it[1] not in left_out] for own in self.cells]
+                    self.left_out.update(cells)
 
     def unknown(self, cells, other):
         """The first of some cells without a name of the other table."""
@@ -179,12 +185,12 @@ class Side:
         return ''
 
     def choices(self, other, faults):
-        """The numbers that each agent lists, best first, and how many neighbours there had equal numbers. The cells are let go."""
+        """The numbers that each agent lists, best first, and how many neighbours there had equal numbers. The rows are let go."""
         self.tell_strange(other, faults)
         lists, ties = [], []
-        for name, own in zip(self.originals, self.cells):
+        for agent, name in enumerate(self.originals):
             found = {}
-            for line, cell, written in own:
+            for line, cell, written in self.cells_of(agent):
                 for choice in parts_of(cell, self.form.mark if written is None else None):
                     number = other.number(choice)
                     value = number_of(written) if written is not None else len(found)
@@ -209,11 +215,12 @@ class Side:
             line, one, two = ties[0]
             faults.add(self.file, line, f'{other.originals[one]!r} and {other.originals[two]!r} have the same {self.form.number} on the list of '
                        f'one agent, and there are {len(ties):,} such ties; --lot NUMBER draws a lot by which ties are broken')
-        self.cells, self.table.rows = [], []
+        self.rows, self.table.rows = [], []
         return lists, len(ties)
 
     def draw(self, seed):
         """Draws a lot: agents come in the order of the SHA-256 sums of the lot's number, a blank and their names."""
+        import hashlib  # takes 4 MB, and is for lots alone
         sums = {i: hashlib.sha256(f'{seed} {key_of(it)}'.encode()).digest() for i, it in enumerate(self.originals)}
         self.lot = {number: place for place, number in enumerate(sorted(sums, key=sums.get), 1)}
 
