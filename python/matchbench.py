@@ -17,6 +17,7 @@ from __future__ import annotations
 
 import difflib
 import importlib
+import json
 import operator
 import os
 import re
@@ -37,6 +38,8 @@ Lists = Mapping[str, Sequence[str]]
 
 MOST_LISTED = 1_000_000
 MOST_IN_VECTOR = 4_294_967_295
+MOST_CAPACITY = 4_096
+MOST_WEIGHT = 1_000_000_000
 
 # What each reason of a refusal says.
 REASONS = {
@@ -491,10 +494,10 @@ class _Side:
 class Instance:
     """An instance, which doesn't change once it is made.
 
-    `marriage`, `hospitals`, `roommates`, `from_text` and `make` make one. Every other method starts the program once, unless
-    it says otherwise, and raises ProgramMissing, Failed, and Refused where the program doesn't take the instance: lists of
-    more than 524,288 entries, for example. A call takes some two milliseconds, and on the largest instances a few tenths of
-    a second; reading the results in Python may take as long again.
+    `marriage`, `hospitals`, `roommates`, `from_text`, `from_json` and `make` make one. Every other method starts the program
+    once, unless it says otherwise, and raises ProgramMissing, Failed, and Refused where the program doesn't take the instance:
+    lists of more than 524,288 entries, for example. A call takes some two milliseconds, and on the largest instances a few
+    tenths of a second; reading the results in Python may take as long again.
 
     `solve`, `reduced`, `rotations`, `pairs`, `meet`, `join` and `route` speak of all stable matchings, whatever pairs are forced
     and forbidden; `list`, `survey`, `regret`, `weight` and `median` of the allowed ones: those that have each forced pair and no
@@ -543,6 +546,17 @@ class Instance:
         """
         given = text.decode('utf-8', 'surrogateescape') if isinstance(text, bytes) else text
         return cls(given, *_read(given))
+
+    @classmethod
+    def from_json(cls, given: Union[str, bytes, Mapping[str, Any]]) -> Instance:
+        """The instance of JSON in the form of docs/FORMATS.md, which `to_json` gives, or of its value, as `json.loads` gives it.
+
+        Its text is the one that the value stands for, so its agents have the names that they have there. Raises ValueError
+        where this is no instance in JSON. What is faulty in its text, such as a name that nobody has, the program refuses as
+        soon as it is asked something.
+        """
+        text = _text_of_json(_value_of(given) if isinstance(given, (str, bytes)) else given)
+        return cls(text, *_read(text))
 
     @classmethod
     def make(cls, shape: str, size: int, seed: int) -> Instance:
@@ -912,7 +926,7 @@ def _stream(text: str, *words: str) -> Iterator[str]:
 
 
 def _look(status: int, written: str, last: str, text: str, pair: Optional[Callable[[str, str], Pair]]) -> None:
-    """Raises what a status and a last line mean, where they aren't those of an answer."""
+    """Raises what a status and a last line mean, where they aren't those of an answer or of an instance in JSON."""
     words = last.split()
     if status == 1 and words[:1] == ['refused'] and len(words) in (3, 7):
         line = int(words[2])
@@ -920,7 +934,8 @@ def _look(status: int, written: str, last: str, text: str, pair: Optional[Callab
             named = pair(words[5], words[6]) if pair else (words[5], words[6])
             raise NotStable(line, _line_of(text, line), written, words[3], words[4], named)
         raise Refused(words[1], line, _line_of(text, line), written)
-    if status not in (0, 3, 7) or not last.endswith('\n') or words[:1] not in (['end'], ['more']):
+    is_last = words[:1] in (['end'], ['more']) or last.startswith('{')
+    if status not in (0, 3, 7) or not last.endswith('\n') or not is_last:
         raise Failed(status, written)
 
 
@@ -1029,6 +1044,99 @@ def _text_of(kind: str, proposers: _Side, reviewers: _Side, weights: Optional[Ma
     for keyword, what, pairs in (('force', 'the forced pairs', forced), ('forbid', 'the forbidden pairs', forbidden)):
         lines += [f'{keyword} {proposers.name(p, what)} {reviewers.name(r, what)}' for p, r in pairs]
     return '\n'.join(lines + ['end', ''])
+
+
+# From JSON to the text that it stands for.
+
+
+def _value_of(given: Union[str, bytes]) -> object:
+    """The value of a text in JSON. Of several members of one name the last counts, and -0 is no whole number."""
+    text = given.decode('utf-8') if isinstance(given, bytes) else given
+    try:
+        return json.loads(text, parse_int=lambda it: -0.0 if it == '-0' else int(it), parse_constant=_not_json)
+    except RecursionError:
+        raise ValueError('this JSON nests too deep') from None
+
+
+def _not_json(word: str) -> object:
+    """What Python reads and JSON doesn't have."""
+    raise ValueError(f'{word} is no JSON')
+
+
+def _text_of_json(value: object) -> str:
+    """The text of a value."""
+    kind = value.get('kind') if isinstance(value, Mapping) else None
+    if kind == 'roommates':
+        members = _members(value, 'the value', ('kind', 'persons'))
+        return '\n'.join(['stable 1 roommates', *_agent_lines('p', 'persons', members['persons'], False), 'end', ''])
+    if kind != 'marriage' and kind != 'hospitals':
+        raise ValueError('no instance in JSON: it is an object, and its kind is "marriage", "hospitals" or "roommates"')
+    members = _members(value, 'the value', ('kind', 'proposers', 'reviewers'), ('weights', 'forced', 'forbidden', 'order'))
+    lines = [*_agent_lines('p', 'proposers', members['proposers'], False),
+             *_agent_lines('r', 'reviewers', members['reviewers'], kind == 'hospitals')]
+    weights = list(_pair_lines('weight', 'weights', members.get('weights', ()), (1, 2)))
+    for keyword, word in (('force', 'forced'), ('forbid', 'forbidden')):
+        weights += _pair_lines(keyword, word, members.get(word, ()), (0,))
+    order = [' '.join(['order', *_names_of(members['order'], 'order')])] if 'order' in members else []
+    is_second = bool(order) or any(it.count(' ') == 4 for it in weights)
+    return '\n'.join([f'stable {2 if is_second else 1} {kind}', *lines, *weights, *order, 'end', ''])
+
+
+def _agent_lines(keyword: str, word: str, value: object, has_places: bool) -> Iterator[str]:
+    """The lines of the agents of a member."""
+    for place, it in enumerate(_items(value, word)):
+        where = f'{word}[{place}]'
+        agent = _members(it, where, ('name', 'capacity', 'list') if has_places else ('name', 'list'))
+        name = _names_of([agent['name']], where)[0]
+        shown = f' [{_whole_number(agent["capacity"], 0, MOST_CAPACITY, where)}]' if has_places else ''
+        yield f'{keyword} {name}{shown}: {" ".join(_names_of(agent["list"], where))}'.rstrip()
+
+
+def _pair_lines(keyword: str, word: str, value: object, counts: Tuple[int, ...]) -> Iterator[str]:
+    """The lines of the pairs of a member, each with so many numbers."""
+    for place, it in enumerate(_items(value, word)):
+        where = f'{word}[{place}]'
+        row = _items(it, where)
+        if len(row) - 2 not in counts:
+            raise ValueError(f'no instance in JSON: {where} has {len(row)} items')
+        numbers = [str(_whole_number(number, -MOST_WEIGHT, MOST_WEIGHT, where)) for number in row[2:]]
+        yield ' '.join([keyword, *_names_of(row[:2], where), *numbers])
+
+
+def _members(value: object, where: str, names: Tuple[str, ...], others: Tuple[str, ...] = ()) -> Mapping[str, object]:
+    """The members of a value that has to be an object with exactly these, and perhaps some others."""
+    if not isinstance(value, Mapping):
+        raise ValueError(f'no instance in JSON: {where} is no object')
+    missing = [it for it in names if it not in value]
+    unknown = [it for it in value if it not in names + others]
+    if missing or unknown:
+        what = f'no member {missing[0]!r}' if missing else f'a member {unknown[0]!r}'
+        raise ValueError(f'no instance in JSON: {where} has {what}')
+    return value
+
+
+def _items(value: object, where: str) -> Sequence[object]:
+    """The items of a value that has to be an array."""
+    if not isinstance(value, (list, tuple)):
+        raise ValueError(f'no instance in JSON: {where} is no array')
+    return value
+
+
+def _names_of(value: object, where: str) -> List[str]:
+    """The names of a value that has to be an array of names."""
+    names = []
+    for it in _items(value, where):
+        if not isinstance(it, str) or not _NAME.match(it):
+            raise ValueError(f'no instance in JSON: {it!r} in {where} is no name')
+        names.append(it)
+    return names
+
+
+def _whole_number(value: object, least: int, most: int, where: str) -> int:
+    """A value that has to be a whole number within bounds."""
+    if not isinstance(value, int) or isinstance(value, bool) or not least <= value <= most:
+        raise ValueError(f'no instance in JSON: {value!r} in {where} is no whole number from {least:,} to {most:,}')
+    return value
 
 
 # From a text to names. What the program would refuse is passed over here.

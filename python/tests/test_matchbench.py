@@ -2,14 +2,17 @@
 
 What asks the program is skipped where none is found.
 """
+import glob
 import importlib
 import itertools
+import json
 import os
 import pickle
 import random
 import re
 import shutil
 import stat
+import subprocess
 import sys
 import tempfile
 import unittest
@@ -26,6 +29,38 @@ from matchbench import (Couples, Failed, Instance, Matching, NoMatching, NotStab
                         Seat)
 from shared.names import sound_names  # noqa: E402
 
+# What is no instance in JSON, each with what is told of it.
+WRONG_JSON = {
+    '': 'Expecting value',
+    '\ufeff{"kind":"roommates","persons":[]}': 'BOM',
+    '{"kind":"roommates","persons":[]} 1': 'Extra data',
+    '{"kind":"roommates","persons":[],"persons":NaN}': 'NaN is no JSON',
+    '[]': 'no instance in JSON: it is an object, and its kind is "marriage", "hospitals" or "roommates"',
+    '{}': 'its kind is',
+    '{"kind":["marriage"],"proposers":[],"reviewers":[]}': 'its kind is',
+    '{"kind":"roommates"}': "the value has no member 'persons'",
+    '{"kind":"roommates","persons":[],"order":[]}': "the value has a member 'order'",
+    '{"kind":"roommates","persons":{}}': 'persons is no array',
+    '{"kind":"roommates","persons":["a"]}': 'persons[0] is no object',
+    '{"kind":"roommates","persons":[{"name":"a","list":"b"}]}': 'persons[0] is no array',
+    '{"kind":"roommates","persons":[{"name":"a b","list":[]}]}': "'a b' in persons[0] is no name",
+    '{"kind":"roommates","persons":[{"name":"a\\n","list":[]}]}': "'a\\n' in persons[0] is no name",
+    '{"kind":"roommates","persons":[{"name":"a","list":[1]}]}': '1 in persons[0] is no name',
+    '{"kind":"roommates","persons":[{"name":"a","list":[],"capacity":1}]}': "persons[0] has a member 'capacity'",
+    '{"kind":"marriage","proposers":[],"reviewers":[],"weights":null}': 'weights is no array',
+    '{"kind":"marriage","proposers":[],"reviewers":[],"weights":[["a","x"]]}': 'weights[0] has 2 items',
+    '{"kind":"marriage","proposers":[],"reviewers":[],"weights":[["a","x",1,2,3]]}': 'weights[0] has 5 items',
+    '{"kind":"marriage","proposers":[],"reviewers":[],"weights":[["a","x",1.0]]}': '1.0 in weights[0] is no whole number',
+    '{"kind":"marriage","proposers":[],"reviewers":[],"weights":[["a","x",1e2]]}': '100.0 in weights[0] is no whole number',
+    '{"kind":"marriage","proposers":[],"reviewers":[],"weights":[["a","x",-0]]}': '-0.0 in weights[0] is no whole number',
+    '{"kind":"marriage","proposers":[],"reviewers":[],"weights":[["a","x",true]]}': 'True in weights[0] is no whole number',
+    '{"kind":"marriage","proposers":[],"reviewers":[],"weights":[["a","x",1000000001]]}': 'from -1,000,000,000 to 1,000,000,000',
+    '{"kind":"marriage","proposers":[],"reviewers":[],"forced":[["a","x",1]]}': 'forced[0] has 3 items',
+    '{"kind":"marriage","proposers":[],"reviewers":[],"forbidden":[["a"]]}': 'forbidden[0] has 1 items',
+    '{"kind":"hospitals","proposers":[],"reviewers":[{"name":"x","list":[]}]}': "reviewers[0] has no member 'capacity'",
+    '{"kind":"hospitals","proposers":[],"reviewers":[{"name":"x","list":[],"capacity":4097}]}': 'from 0 to 4,096',
+    '{"kind":"hospitals","proposers":[],"reviewers":[{"name":"x","list":[],"capacity":"1"}]}': "'1' in reviewers[0] is no whole",
+}
 PROPOSERS = ['Zoë', 'Zoe', 'Müller, Ann', 'Иван', 'p4', '']
 REVIEWERS = ['City Hospital', "St. John's", 'Дом 5', 'west', '-', 'r#']
 
@@ -405,6 +440,67 @@ class Names(unittest.TestCase):
             self.assertEqual((instance.kind, dict(instance.proposers), dict(instance.reviewers), dict(instance.capacities)),
                              ('hospitals', {'a': ('c',)}, {'c': ('a',)}, {'c': 3}))
         self.assertEqual(matchbench._encoded(Instance.from_text(text.encode('latin-1')).to_text()), text.encode('latin-1'))
+
+    def test_json(self):
+        """The stored instances and those of docs/FORMATS.md: as text, as bytes, and as a value."""
+        paths = sorted(glob.glob(os.path.join(TOP, 'examples', '*.json')))
+        self.assertGreater(len(paths), 6)
+        for path in paths:
+            name = os.path.basename(path)[:-len('.json')]
+            wanted = Instance.from_text(example(name + '.txt'))
+            for given in (example(name + '.json'), example(name + '.json').encode(), json.loads(example(name + '.json'))):
+                got = Instance.from_json(given)
+                self.assertEqual((got.kind, dict(got.proposers), dict(got.reviewers), dict(got.capacities)),
+                                 (wanted.kind, dict(wanted.proposers), dict(wanted.reviewers), dict(wanted.capacities)), name)
+        with open(os.path.join(TOP, 'docs', 'FORMATS.md'), encoding='utf-8') as file:
+            shown = re.findall(r'^    (\{"kind".*(?:\n     .*)*)', file.read(), re.M)
+        self.assertEqual([Instance.from_json(it).to_text() for it in shown], [
+            'stable 2 marriage\np m1: a b\np m2: b a\nr a: m2 m1\nr b: m1 m2\nweight m1 b 5\nweight m2 a -3 1\nforce m1 a\n'
+            'forbid m2 a\norder m2\nend\n',
+            'stable 1 hospitals\np ann: city\np ben: city\nr city [2]: ben ann\nend\n',
+            'stable 1 roommates\np x: y\np y: x\nend\n'])
+
+    def test_json_members(self):
+        """Members in any order, twice, escaped, empty; what isn't exactly an instance is none."""
+        two = '"kind": "marriage", "proposers": [{"name": "a", "list": ["x"]}], "reviewers": [{"list": [], "name": "x"}]'
+        plain = 'stable 1 marriage\np a: x\nr x:\nend\n'
+        for given, wanted in ((two, plain), (two + ', "weights": [], "forced": [], "forbidden": []', plain),
+                              (two.replace('"a"', '"\\u0061"'), plain), ('"kind": [1.0, {"kind": -0}], ' + two, plain),
+                              (two + ', "order": []', 'stable 2 marriage\np a: x\nr x:\norder\nend\n'),
+                              (two + ', "weights": [["a", "x", 1000000000, -1000000000]]',
+                               'stable 2 marriage\np a: x\nr x:\nweight a x 1000000000 -1000000000\nend\n')):
+            self.assertEqual(Instance.from_json('{' + given + '}').to_text(), wanted)
+        for given, told in WRONG_JSON.items():
+            with self.assertRaises(ValueError) as caught:
+                Instance.from_json(given)
+            self.assertIn(told, str(caught.exception), given)
+
+    def test_json_given(self):
+        """`to_json` takes one whole line of the program."""
+        instance = Instance.from_text(example('two_by_two.txt'))
+        with tempfile.TemporaryDirectory() as folder:
+            path = os.path.join(folder, 'program')
+            for written, ended, is_whole in (('{}\\n', 0, True), ('{}', 0, False), ('', 0, False), ('', 4, False)):
+                with open(path, 'w', encoding='utf-8') as file:
+                    file.write(f"#!/bin/sh\ncat >/dev/null\nprintf '{written}'\nexit {ended}\n")
+                os.chmod(path, stat.S_IRWXU)
+                with mock.patch.dict(os.environ, {'MATCHBENCH': path}):
+                    if is_whole:
+                        self.assertEqual(instance.to_json(), '{}\n')
+                    else:
+                        self.assertRaises(Failed, instance.to_json)
+
+    @asks
+    def test_json_asked(self):
+        """What `export` writes is read again, and `form=json` refuses what isn't read."""
+        for seed in range(20):
+            lists, rows, capacities = drawn(seed)
+            made = Instance.marriage(lists, rows) if capacities is None else Instance.hospitals(lists, rows, capacities)
+            again = Instance.from_json(made.to_json())
+            self.assertEqual((again.solve().ranks, again.to_json()), (made.solve().ranks, made.to_json()))
+        for given in WRONG_JSON:
+            done = subprocess.run([matchbench.find_program(), 'solve', 'form=json'], input=given.encode(), stdout=subprocess.PIPE)
+            self.assertEqual((done.returncode, done.stdout), (1, b'["refused BadJson 0"]\n'), given)
 
     def test_arguments(self):
         p, r = {'ann': ['art', 'biology']}, {'art': ['ann'], 'biology': []}

@@ -1,4 +1,9 @@
-"""`trim` against all stable matchings found by trying all matchings, and against the program's answers where it is built."""
+"""`trim` against all stable matchings found by trying all matchings, and against the program's answers where it is built.
+
+TRIM_CASES in the environment says on how many random instances, as in
+
+    TRIM_CASES=2000 python3 -B -m unittest discover -s tools/tests -p test_trim.py
+"""
 import os
 import random
 import unittest
@@ -8,8 +13,9 @@ import inside
 import program
 
 EXAMPLES = os.path.join(inside.TOOLS, '..', 'examples')
+CASES = int(os.environ.get('TRIM_CASES', '40'))
 COMMANDS = ('solve', 'solve side=reviewers', 'rotations', 'list limit=1000', 'list limit=2', 'pairs', 'regret', 'survey limit=1000',
-            'weight by=ranks', 'weight by=given')
+            'weight by=ranks', 'weight by=given', 'median')
 
 
 def trim(text):
@@ -66,21 +72,21 @@ class Trim(unittest.TestCase):
             self.assertTrue(p not in stable[min(stable)] or any(has[p] == row[-1] for has in stable.values()))
 
     def judged_alike(self, text, cut, market, stable):
-        """A matching gets the same verdict, and two stable ones have the same meet and join."""
+        """A matching gets the same verdict, and two stable ones have the same meet, join and route."""
         has = random.Random(text).choice(list(market.matchings()))
         answer = f'answer solve side=proposers\n{lines_of("pair", has)}end\n'
         self.assertEqual(program.ask(cut + answer, 'check')[0], program.ask(text + answer, 'check')[0], (text, has))
         both = lines_of('left', stable[min(stable)]) + lines_of('right', stable[max(stable)]) + 'end\n'
-        for words in ('meet', 'join'):
+        for words in ('meet', 'join', 'route'):
             self.assertEqual(program.ask(cut + both, words), program.ask(text + both, words))
 
     def test_random(self):
-        got = [self.agrees(brute.made_any(seed, 5)) for seed in range(30)]
-        self.assertGreater(sum(cut for cut, _ in got), 12)
+        got = [self.agrees(brute.made_any(seed, 5)) for seed in range(CASES * 3 // 4)]
+        self.assertGreater(sum(cut for cut, _ in got), len(got) // 3)
         self.assertGreater(max(count for _, count in got), 1)
 
     def test_random_opposed(self):
-        got = [self.agrees(make(seed)) for seed in range(5) for make in (brute.made, brute.made_hospitals)]
+        got = [self.agrees(make(seed)) for seed in range(CASES // 8) for make in (brute.made, brute.made_hospitals)]
         self.assertGreater(max(count for _, count in got), 3)
 
     def test_lines(self):
