@@ -166,7 +166,7 @@ class NoMatching(MatchbenchError):
 
 
 class Failed(MatchbenchError):
-    """The program ended without a whole answer: memory was wanting (status 4), reading failed (5) or writing (6), and so on.
+    """The program ended without a whole answer: there was no memory (status 4), reading failed (5) or writing (6), and so on.
 
     `status` is what it ended with, negative where a signal ended it, and `text` what it had written until then: nothing, or
     a front of an answer, of which `list` keeps the last line alone.

@@ -5,6 +5,8 @@ import io
 import os
 import random
 import re
+import subprocess
+import sys
 import tempfile
 import unittest
 
@@ -14,6 +16,19 @@ import inside
 HERE = os.path.dirname(os.path.realpath(__file__))
 EXAMPLES = os.path.join(HERE, '..', '..', 'examples')
 FORM = re.compile(r'[A-Za-z0-9_][A-Za-z0-9_.-]{0,63}\Z')
+
+
+# Runs a tool, and tells on standard error how much memory the process took at most, in KB.
+MEASURED = """
+import os, re, runpy, sys
+sys.argv = sys.argv[1:]
+sys.path[0] = os.path.dirname(sys.argv[0])
+try:
+    runpy.run_path(sys.argv[0], run_name='__main__')
+finally:
+    with open('/proc/self/status') as file:
+        print('most', re.search(r'VmHWM:\\s*([0-9]+)', file.read()).group(1), file=sys.stderr)
+"""
 
 
 def text_of(*path):
@@ -410,6 +425,33 @@ class Tables(unittest.TestCase):
                                                                    stdin='answer list limit=100\nvector 1,2,1\nend\n')[2])
         self.assertEqual(self.call('to_csv', 'names.csv', stdin='answer rest\nout ann\npair ben cem\nend\n'),
                          (0, 'person,partner,out\n"Ann, A.",,out\nBen,Cem,\nCem,Ben,\nDan,,\n', ''))
+
+    def measured(self, tool, *words):
+        """What a tool writes, and how much memory its own process takes."""
+        done = subprocess.run([sys.executable, '-B', '-c', MEASURED, os.path.join(inside.TOOLS, tool), *words], cwd=self.folder.name,
+                              stdout=subprocess.PIPE, stderr=subprocess.PIPE)
+        self.assertEqual(done.returncode, 0, done.stderr)
+        return done.stdout.decode(), int(done.stderr.split()[-1])
+
+    @unittest.skipUnless(os.path.exists('/proc/self/status'), 'the system doesn\'t tell how much memory a process takes')
+    def test_room(self):
+        """3,000 pupils with 20 choices and 120 schools that rank all of them: 30 MB from the tables to the instance, and no more back."""
+        draw = random.Random(1)
+        schools = {f'School {i}': [] for i in range(120)}
+        pupils = {f'Pupil {i}': draw.sample(list(schools), 20) for i in range(3000)}
+        for name, row in pupils.items():
+            for it in row:
+                schools[it].append(name)
+        self.put('p.csv', written([['n', *range(20)]] + [[name, *row] for name, row in pupils.items()]))
+        self.put('r.csv', written([['n', 'capacity', *range(max(map(len, schools.values())))]] +
+                                  [[name, 25, *draw.sample(row, len(row))] for name, row in schools.items()]))
+        text, most = self.measured('from_csv', '--names', 'names.csv', 'p.csv', 'r.csv')
+        self.assertEqual(text.count('\n'), 3122)
+        self.assertLess(most, 30_000)
+        self.put('answer', 'answer solve side=proposers\n' + ''.join(f'pair Pupil_{i} School_{i // 25}\n' for i in range(3000)) + 'end\n')
+        placed, most = self.measured('to_csv', 'names.csv', 'answer')
+        self.assertEqual((placed.count('\n'), placed.splitlines()[-1]), (3001, 'Pupil 2999,School 119'))
+        self.assertLess(most, 30_000)
 
     def test_wrong_answers(self):
         right = text_of(EXAMPLES, 'both_sides.solve')
