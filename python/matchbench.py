@@ -30,8 +30,8 @@ from typing import (Any, Callable, Dict, Iterable, Iterator, List, Mapping, Name
                     Union)
 
 __all__ = ['Couples', 'Failed', 'FlowEdge', 'Instance', 'LeastRegret', 'Lightest', 'Matching', 'MatchbenchError', 'NoMatching',
-           'NotStable', 'ProgramMissing', 'Reduced', 'Refused', 'Rotation', 'RotationOrder', 'Seat', 'StablePairs', 'Survey',
-           'Verdict', 'find_program']
+           'NotStable', 'ProgramMissing', 'Reduced', 'Refused', 'Rest', 'Rotation', 'RotationOrder', 'Seat', 'StablePairs',
+           'Survey', 'Verdict', 'find_program']
 
 Pair = Tuple[str, str]
 Lists = Mapping[str, Sequence[str]]
@@ -373,14 +373,25 @@ class Median:
 
 @dataclass(frozen=True)
 class Route:
-    """A shortest way from one stable matching to another: the numbers of the rotations that are taken back, and then of those that are
-    eliminated, each in its order. `first` and `rotations` are as in a `RotationOrder`.
+    """A shortest way from one stable matching to another: the numbers of the rotations that are taken back, and then of those that
+    are eliminated, each in its order. `first` and `rotations` are as in a `RotationOrder`.
     """
 
     back: Tuple[int, ...]
     forth: Tuple[int, ...]
     first: Dict[str, Seat]
     rotations: Tuple[Rotation, ...]
+    text: str = field(repr=False, compare=False)
+
+
+@dataclass(frozen=True)
+class Rest:
+    """Roommates of whom some are left out: `out` has the first member of each odd party of three or more, and `matching` the
+    couples of the others, no two of whom would both rather have one another.
+    """
+
+    out: Tuple[str, ...]
+    matching: Matching
     text: str = field(repr=False, compare=False)
 
 
@@ -501,7 +512,7 @@ class Instance:
 
     `solve`, `reduced`, `rotations`, `pairs`, `meet`, `join` and `route` speak of all stable matchings, whatever pairs are forced
     and forbidden; `list`, `survey`, `regret`, `weight` and `median` of the allowed ones: those that have each forced pair and no
-    forbidden one. Roommates have `solve`, `list`, `check` and `check_matching` alone.
+    forbidden one. Roommates have `solve`, `list`, `rest`, `check` and `check_matching` alone.
     """
 
     def __init__(self, text: str, kind: str, proposers: _Side, reviewers: _Side) -> None:
@@ -652,8 +663,9 @@ class Instance:
         differ. Of roommates it is all stable matchings, as `Couples`.
 
         It goes on to the end, or until it has given as many as `limit` says. `after` is a matching, or ranks of which there
-        is a number for each proposer, or each person: those behind them come alone. The program is started when the first one is asked for,
-        works while more are, and is ended where the generator is closed or dropped; after each million it is started again.
+        is a number for each proposer, or each person: those behind them come alone. The program is started when the first one
+        is asked for, works while more are, and is ended where the generator is closed or dropped; after each million it is
+        started again.
         Neither side holds more than a few lines, so a listing may be of any length. Raises ValueError for a faulty argument
         at once, and what the program says when the first matching is asked for.
         """
@@ -714,6 +726,14 @@ class Instance:
         answer = self._given('route', left, right)
         back, forth = (tuple(int(it[0]) for it in answer.of(word)) for word in ('back', 'forth'))
         return Route(back, forth, *self._chain(answer), answer.text)
+
+    def rest(self) -> Rest:
+        """Of roommates who is left out, and a matching of the others. Where there is a stable matching nobody is left out, and this
+        is one.
+        """
+        answer = self._answer('rest')
+        out = tuple(self._proposers.originals[words[0]] for words in answer.of('out'))
+        return Rest(out, self._matching(answer), answer.text)
 
     def survey(self, limit: int = MOST_LISTED) -> Survey:
         """Figures over the allowed stable matchings, up to a limit of at most a million. Takes as long as listing them."""

@@ -291,12 +291,20 @@ class Rooms(unittest.TestCase):
                     self.assertTrue(instance.check(found))
                     self.assertEqual(found.ranks, tuple(lists[it].index(found.partners()[it]) + 1 if it in found.partners()
                                                         else len(lists[it]) + 1 for it in persons))
+                    self.assertEqual(instance.rest().out, ())
                 except NoMatching as fault:
                     self.assertEqual(stable, [])
+                    self.assertEqual(instance.rest().out, tuple(it for it in persons for party in fault.parties
+                                                                if it == party[0] and len(party) % 2 and len(party) > 2))
                     self.assertTrue(any(len(it) % 2 and len(it) > 2 for it in fault.parties))
                     self.assertEqual(sorted(itertools.chain(*fault.parties)), sorted(persons))
                     self.assertTrue(instance.check(fault))
                     without += 1
+                rest = instance.rest()
+                has = rest.matching.partners()
+                self.assertIn(has, every)
+                self.assertFalse(any({*pair} & {*rest.out} == set() for pair in self.blocking(has, lists)))
+                self.assertFalse({*rest.out} & {*has})
                 for has in stable[:1] + [draw.choice(every)]:
                     verdict = instance.check_matching(has)
                     self.assertEqual(verdict.right, has in stable)
@@ -555,6 +563,14 @@ class Programs(unittest.TestCase):
         patch = mock.patch.dict(os.environ, {'MATCHBENCH': path})
         patch.start()
         self.addCleanup(patch.stop)
+
+    def test_rest(self):
+        """What is made of a stored answer."""
+        self.program(f'cat >/dev/null\ncat "{os.path.join(TOP, "examples", "odd_party.rest")}"\n')
+        found = Instance.from_text(example('odd_party.txt')).rest()
+        self.assertEqual((found.out, found.matching.partners()), (('ann',), {'ben': 'cem', 'cem': 'ben'}))
+        self.assertIsInstance(found.matching, Couples)
+        self.assertEqual((found.matching.ranks, found.text), ((4, 1, 2, 4), example('odd_party.rest')))
 
     def test_missing(self):
         with mock.patch.dict(os.environ, {'MATCHBENCH': os.path.join(self.folder, 'none')}):
