@@ -29,9 +29,9 @@ from types import MappingProxyType
 from typing import (Any, Callable, Dict, Iterable, Iterator, List, Mapping, NamedTuple, Optional, Protocol, Sequence, Tuple,
                     Union)
 
-__all__ = ['Couples', 'Failed', 'FlowEdge', 'Instance', 'LeastRegret', 'Lightest', 'Matching', 'MatchbenchError', 'NoMatching',
-           'NotStable', 'ProgramMissing', 'Reduced', 'Refused', 'Rest', 'Rotation', 'RotationOrder', 'Seat', 'StablePairs',
-           'Survey', 'Verdict', 'find_program']
+__all__ = ['Couples', 'Failed', 'FlowEdge', 'Instance', 'LeastRegret', 'Lightest', 'Matching', 'MatchbenchError', 'Median',
+           'NoMatching', 'NotStable', 'ProgramMissing', 'Reduced', 'Refused', 'Rest', 'Rotation', 'RotationOrder', 'Route',
+           'Seat', 'StablePairs', 'Survey', 'Verdict', 'find_program']
 
 Pair = Tuple[str, str]
 Lists = Mapping[str, Sequence[str]]
