@@ -1,5 +1,5 @@
 -- A line is judged by tokens that are enough of all.
-use Rattle.std.proofs.Common.{◌≡◌, ℕ, ◌&&◌, ◌||◌, not, Bool, true, false, cond, eqb, List, [], ◌∷◌, ◌++◌, length, take, drop, Option, Some, None, is_some, refl, sym, ap, subst, ◌∙◌, arith}
+use Rattle.std.proofs.Common.{◌≡◌, ℕ, ◌≤◌, ◌&&◌, ◌||◌, not, Bool, true, false, cond, eqb, List, [], ◌∷◌, ◌++◌, length, take, drop, Option, Some, None, is_some, refl, sym, ap, subst, ◌∙◌, arith}
 use Rattle.std.specs.List.{list_any, list_all}
 use Rattle.std.specs.Option.{option_or}
 use Rattle.std.specs.Str.{bytes_eq}
@@ -225,7 +225,7 @@ heading_alike (w ∷ a ∷ b ∷ []) x y long bad = absurd (omega arith)
 
 -- tokens that are enough of all are all, or the first of them stand before others that are alike
 module _ (kept all : List (List ℕ)) (enough : AreEnough kept all) where
-  front : List (List ℕ)
+  abbrev front : List (List ℕ)
   front = take first_tokens all
 
   kept_parts : kept ≡ front ++ drop first_tokens kept

@@ -8,18 +8,47 @@ use Rattle.sm_text.specs.Tokens.{tokens}
 use Rattle.sm_text.specs.declared.refusal.RefusalKind.TheVariants.{TooLong, UnknownName}
 use Rattle.sm_instance.specs.declared.kinds.Kind.{Kind}
 use Rattle.sm_instance.specs.declared.inputs.Input.{Input}
-use Rattle.sm_instance.specs.Named.{Said}
-use Rattle.sm_reader.specs.Judging.{by_verdict, verdict_on, goes, stops}
+use Rattle.sm_instance.specs.Named.{Said, nothing}
+use Rattle.sm_reader.specs.Judging.{by_verdict, verdict_on, goes, stops, Heading, passes, heads, by_heading, heading_of}
 use Rattle.sm_reader.specs.InstanceText.{ReadText, Refusal, before_header, behind_header, ended, input_of, instance_text, IsTextFault}
 use Rattle.sm_keys.specs.Tokens.{LeadsLines}
 use Rattle.sm_reader.specs.Draft.{said_of, IsRefusedBy}
 use Rattle.sm_reader.specs.Numbering.{IsUnknownFault}
-use Rattle.sm_reader.specs.Reading.{IsFaultOf, Finishes}
+use Rattle.sm_reader.specs.Reading.{IsFaultOf, IsHeadingFault, Finishes}
 use Rattle.sm_reader.specs.declared.draft.Draft.{Draft}
 use Rattle.sm_reader.specs.declared.faults.TextFault.{TextFault}
 use Rattle.sm_reader.specs.declared.faults.TextFault.TheVariants.{Refused, OutOfMemory}
 
 module _ (bytes text : List ℕ) (at next : ℕ) (leads : LeadsLines bytes at text next) where
+  -- one line up to the header
+  heading_step : (n : ℕ) → before_header n at (lines (drop at bytes))
+      ≡ by_heading (heading_of (tokens text)) (before_header (n + 1) next (lines (drop next bytes))) (λ kind format. behind_header kind format n nothing (n + 1) next (lines (drop next bytes))) (λ fault. Err (fault, n))
+  heading_step n =
+      ap (before_header n at) leads.leads
+      ∙ ap (λ p. by_heading (heading_of (tokens (content (first_line (drop at bytes))))) (before_header (n + 1) p (lines (drop next bytes)))
+      (λ kind format. behind_header kind format n nothing (n + 1) p (lines (drop next bytes))) (λ fault. Err (fault, n))) (sym leads.long)
+      ∙ ap (λ t. by_heading (heading_of (tokens t)) (before_header (n + 1) next (lines (drop next bytes)))
+      (λ kind format. behind_header kind format n nothing (n + 1) next (lines (drop next bytes))) (λ fault. Err (fault, n))) (sym leads.holds)
+
+  heading_by : (n : ℕ) (h : Heading) → heading_of (tokens text) ≡ h → before_header n at (lines (drop at bytes))
+      ≡ by_heading h (before_header (n + 1) next (lines (drop next bytes))) (λ kind format. behind_header kind format n nothing (n + 1) next (lines (drop next bytes))) (λ fault. Err (fault, n))
+  heading_by n h e =
+      heading_step n
+      ∙ ap (λ g. by_heading g (before_header (n + 1) next (lines (drop next bytes))) (λ kind format. behind_header kind format n nothing (n + 1) next (lines (drop next bytes))) (λ fault. Err (fault, n))) e
+
+  -- a line without tokens
+  pub heading_passes : (n : ℕ) → heading_of (tokens text) ≡ passes → before_header n at (lines (drop at bytes)) ≡ before_header (n + 1) next (lines (drop next bytes))
+  heading_passes n e = heading_by n passes e
+
+  -- the header
+  pub heading_heads : (n : ℕ) (kind : Kind) (format : ℕ) → heading_of (tokens text) ≡ heads kind format → before_header n at (lines (drop at bytes)) ≡ behind_header kind format n nothing (n + 1) next (lines (drop next bytes))
+  heading_heads n kind format e = heading_by n (heads kind format) e
+
+  -- another line
+  pub heading_faces : (n : ℕ) (f : TextFault) → IsHeadingFault (heading_of (tokens text)) n f → IsFaultOf (before_header n at (lines (drop at bytes))) f
+  heading_faces n (Refused fault line) h = heading_by n _ h.0 ∙ ap (λ m. Err (fault, m)) (sym h.1)
+  heading_faces n OutOfMemory h = tt
+
   -- one line behind the header
   pub verdict_step : (kind : Kind) (format header : ℕ) (said : Said) (n : ℕ) → behind_header kind format header said n at (lines (drop at bytes))
       ≡ by_verdict (verdict_on kind format said n (tokens text)) (λ more. behind_header kind format header more (n + 1) next (lines (drop next bytes))) (ended kind header said next (n + 1)) (λ fault. Err (fault, n))
