@@ -1,8 +1,8 @@
 -- A text is judged once, and isn't bad then.
-use Rattle.std.proofs.Common.{◌≡◌, ℕ, suc, ◌+◌, inl, inr, arith, sym, ap, ◌∙◌, subst, Bool, true, List, [], ◌∷◌, length, map, take, drop}
+use Rattle.std.proofs.Common.{◌≡◌, ℕ, suc, ◌+◌, ◌<◌, inl, inr, arith, refl, sym, ap, ◌∙◌, subst, cond, Bool, true, false, List, [], ◌∷◌, length, map, take, drop}
 use Rattle.std.specs.List.{list_all}
 use Rattle.std.proofs.lemmas.Bool.{false≢true}
-use Rattle.std.proofs.lemmas.List.{take-map, take-append-drop}
+use Rattle.std.proofs.lemmas.List.{take-map, take-take, take-append-drop}
 use Rattle.std.proofs.lemmas.List.Elements.{All-take}
 use Rattle.std.proofs.lemmas.List.Folds.{list_all-append}
 use Rattle.sm_lists.proofs.Counting.{lt_or_le}
@@ -11,12 +11,14 @@ use Rattle.sm_instance.specs.declared.inputs.Input.{Input}
 use Rattle.sm_report.specs.Lines.{LineData}
 use Rattle.sm_report.specs.Sound.{IsLineOf}
 use Rattle.sm_report.specs.Texts.{text_of_line}
-use Rattle.sm_check_forms.specs.Layouts.{is_begun, is_whole}
+use Rattle.sm_check_forms.specs.declared.layouts.LayoutPart.{LayoutPart}
+use Rattle.sm_check_forms.specs.declared.layouts.Opening.{Opening}
+use Rattle.sm_check_forms.specs.Layouts.{left_behind, is_empty, is_begun, is_whole}
 use Rattle.sm_check_forms.specs.Forms.{layouts_of, opening_of, fits, is_placed, AreFirstLines, AreAnswer, BeginAnAnswer, IsMisplaced}
 use Rattle.sm_check_clauses.specs.Verdicts.{IsVerdict}
 use Rattle.sm_check_clauses.specs.Judging.{Holds}
-use Rattle.sm_cert.specs.Laws.{JudgedIsntBad, OneJudgement}
-use Rattle.sm_check_forms.proofs.LayoutLemmas.{whole_is_begun}
+use Rattle.sm_cert.specs.Laws.{JudgedIsntBad, OneJudgement, OneMisplaced}
+use Rattle.sm_check_forms.proofs.LayoutLemmas.{left_behind-none, left_behind-append, whole_is_begun}
 use Rattle.sm_check_forms.proofs.TakingLemmas.{same_lines}
 use Rattle.sm_cert.proofs.VerdictLaws.{one_verdict}
 
@@ -25,6 +27,17 @@ all_of_first : (p : LineData → Bool) (n : ℕ) (lines : List LineData) → lis
 all_of_first p n lines h =
     and_left (list_all p (take n lines)) (list_all p (drop n lines))
     (sym (list_all-append p (take n lines) (drop n lines)) ∙ ap (list_all p) (take-append-drop n lines) ∙ h)
+
+-- what begins an answer in one of the layouts has a front that does
+begun_front : (layouts : List (List LayoutPart)) (lines : List Opening) (k : ℕ) → is_begun layouts lines ≡ true → is_begun layouts (take k lines) ≡ true
+begun_front layouts lines k e = go (left_behind layouts (take k lines)) refl
+  where
+    go : (left : List (List LayoutPart)) → left_behind layouts (take k lines) ≡ left → cond (is_empty left) false true ≡ true
+    go [] h =
+        let parts = ap (left_behind layouts) (sym (take-append-drop k lines)) ∙ left_behind-append layouts (take k lines) (drop k lines) in
+        let none = parts ∙ ap (λ ls. left_behind ls (drop k lines)) h ∙ left_behind-none (drop k lines) in
+        absurd (false≢true (sym (ap (λ (ls : List (List LayoutPart)). cond (is_empty ls) false true) none) ∙ e))
+    go (x ∷ xs) h = refl
 
 module _ (input : Input) where
   first_placed : (n : ℕ) (lines : List LineData) → is_placed is_whole input lines ≡ true → is_placed is_begun input (take (suc n) lines) ≡ true
@@ -53,6 +66,41 @@ module _ (input : Input) where
         m.here less (subst (λ n. BeginAnAnswer input (take n texts)) (sym one) (is_front k texts lines (front_of_whole k texts lines a)))
     | inr more ↦ m.missing (omega (arith, more, m.within)) lines a
   ]
+
+  -- so have the first lines of an answer
+  begun_placed : (n : ℕ) (lines : List LineData) → is_placed is_begun input lines ≡ true → is_placed is_begun input (take (suc n) lines) ≡ true
+  begun_placed n [] e = absurd (false≢true e)
+  begun_placed n (LineData.Answer head ∷ lines) e =
+      ap (is_begun (layouts_of input head)) (sym (take-map opening_of n lines)) ∙ begun_front (layouts_of input head) (map opening_of lines) n e
+  begun_placed n (_ ∷ lines) e = absurd (false≢true e)
+
+  front_begins : (n : ℕ) (texts : List (List ℕ)) → BeginAnAnswer input texts → BeginAnAnswer input (take (suc n) texts)
+  front_begins n [] h = tt
+  front_begins n (text ∷ texts) h =
+      let lines = h.0 in (
+        take (suc n) lines,
+        record {
+          read = sym (take-map (text_of_line input) (suc n) lines) ∙ ap (take (suc n)) h.1.read;
+          right = All-take (IsLineOf input) (suc n) lines h.1.right;
+          fitting = all_of_first (fits input) (suc n) lines h.1.fitting;
+          placed = begun_placed n lines h.1.placed;
+        },
+      )
+
+  -- no text behind a misplaced one is misplaced
+  none_later : (texts : List (List ℕ)) (j k : ℕ) → IsMisplaced input texts j → IsMisplaced input texts k → j < k → ⊥
+  none_later texts j k a b less =
+      let one : j + 1 ≡ suc j = omega arith in
+      let within : j < length texts = (let most = b.within in omega arith) in
+      a.here within (subst (λ n. BeginAnAnswer input (take n texts)) (sym one)
+      (subst (BeginAnAnswer input) (take-take (suc j) k texts (omega arith)) (front_begins j (take k texts) b.before)))
+
+-- the law that no more than one text is misplaced
+pub one_misplaced : OneMisplaced
+one_misplaced input texts j k a b = elim (lt_or_le j k) [
+  | inl less ↦ absurd (none_later input texts j k a b less)
+  | inr more ↦ elim (lt_or_le k j) [ inl less ↦ absurd (none_later input texts k j b a less) | inr same ↦ omega arith ]
+]
 
 -- the law that a text with a verdict is of the form of an answer
 pub judged_isnt_bad : JudgedIsntBad

@@ -13,7 +13,7 @@ use Rattle.sm_seats.specs.Vectors.{IsAllowedRankVector}
 use Rattle.sm_check_clauses.specs.Verdicts.{AtLine}
 use Rattle.sm_check_clauses.specs.Said.{vector_in, vectors_in}
 use Rattle.sm_check_clauses.specs.Vectors.{ListHolds, VectorHolds, ListClauses, places_of_ranks}
-use Rattle.sm_cert.specs.Yes.{AreListed, ListYes}
+use Rattle.sm_cert.specs.Yes.{AreListed, IsBrokenOff, ListYes}
 use Rattle.sm_cert.proofs.YesLines.{by_head, grown}
 
 at_end : {X : Type 0} (xs : List X) (y : X) (d : X) → slice_index_or (xs ++ y ∷ []) (length xs) d ≡ y
@@ -82,7 +82,7 @@ module _ (w : Written) (after : Option (List ℕ)) (limit : ℕ) where
 
 -- the law of a yes on `list`
 pub list_yes : ListYes
-list_yes w after limit lines g = grown vector_in (AreListed w after limit) (AreNext w after limit) lines (none_yet w after limit) (one_more w after limit) next_at
+list_yes w after limit lines g = (grown vector_in (AreListed w after limit) (AreNext w after limit) lines (none_yet w after limit) (one_more w after limit) next_at, broken_off)
   where
     claims : (k : ℕ) (why : Reason) → AtLine (ListClauses w after limit) lines k why
     claims = by_head (λ (ls : List LineData). (k : ℕ) (why : Reason) → AtLine (ListClauses w after limit) ls k why) g (λ rest placed h. h)
@@ -93,3 +93,6 @@ list_yes w after limit lines g = grown vector_in (AreListed w after limit) (AreN
         go : (o : Option LineData) → ((why : Reason) → IfSome o (λ line. ListClauses w after limit (take k lines) line why)) → IfSome o (λ line. IfSome (vector_in line) (AreNext w after limit (vectors_in (take k lines))))
         go None h = tt
         go (Some x) h = of_line w after limit (vectors_in (take k lines)) x h
+
+    broken_off : IsBrokenOff after limit lines
+    broken_off k v e = subst (λ (o : Option LineData). IfSome o (λ line. ListClauses w after limit (take k lines) line reason.WrongTail)) e (claims k reason.WrongTail)

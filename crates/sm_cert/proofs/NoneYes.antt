@@ -1,5 +1,5 @@
 -- What a yes on an answer of `solve` over roommates means, where there is said to be no stable matching.
-use Rattle.std.proofs.Common.{◌≡◌, ◌≢◌, ℕ, zero, suc, ◌+◌, ◌*◌, ◌<◌, ◌||◌, ◌==◌, inl, inr, arith, refl, sym, ap, ◌∙◌, cond, Bool, true, false, List, [], ◌∷◌, ◌++◌, length, get_or, take, Option, Some, None, subst, ne_eqb, eq-eqb}
+use Rattle.std.proofs.Common.{◌≡◌, ◌≢◌, ℕ, zero, suc, ◌+◌, ◌*◌, ◌<◌, ◌≤◌, ◌||◌, ◌==◌, inl, inr, arith, refl, sym, ap, ◌∙◌, cond, Bool, true, false, List, [], ◌∷◌, ◌++◌, length, get_or, take, Option, Some, None, subst, ne_eqb, eq-eqb}
 use Rattle.std.specs.Prelude.{Contains, IfSome, All, count_by}
 use Rattle.std.specs.List.{slice_get}
 use Rattle.std.proofs.lemmas.Bool.{false≢true}
@@ -20,7 +20,7 @@ use Rattle.sm_check_clauses.specs.Rooming.{members_of, next_of, nexts_of, AreNew
 use Rattle.sm_check_roommates.specs.PartiesKept.{is_among, follower}
 use Rattle.sm_cert.specs.Yes.{NoneYes}
 use Rattle.sm_check_roommates.proofs.PersonLemmas.{of_among}
-use Rattle.sm_check_roommates.proofs.PartyLemmas.{times_more, once_least, twice_least, stands_at, is_among-get_or, next_of-push_there, next_of-push_other, next_in_party-get_or}
+use Rattle.sm_check_roommates.proofs.PartyLemmas.{times_more, none_times, once_least, twice_least, stands_at, is_among-get_or, next_of-push_there, next_of-push_other, next_in_party-get_or}
 use Rattle.sm_cert.proofs.YesPairs.{only_one}
 use Rattle.sm_cert.proofs.YesLines.{right_parties, at_closing, said_above, each_line, grown}
 
@@ -30,12 +30,14 @@ abbrev IsNewParty : List AgentData → List (List ℕ) → List ℕ → Type 0
 IsNewParty persons parties party = AreNew parties party × All (IsOnLeft (Room persons)) party
 
 record AreNewParties (persons : List AgentData) (parties : List (List ℕ)) : Type 0 where
+  few : (x : ℕ) → count_by (λ y. y == x) (members_of parties) ≤ 1
   within : (party : List ℕ) → Contains parties party → (j : ℕ) → j < length party → get_or party j 0 < length persons
   distinct : (party : List ℕ) → Contains parties party → (i j : ℕ) → i < j → j < length party → get_or party i 0 ≢ get_or party j 0
   next : (party : List ℕ) → Contains parties party → (j : ℕ) → j < length party → next_of parties (get_or party j 0) ≡ follower party j
 
 no_party : (persons : List AgentData) → AreNewParties persons []
 no_party persons = record {
+  few = λ x. omega arith;
   within = λ party c. absurd (let l = c.1 in omega arith);
   distinct = λ party c. absurd (let l = c.1 in omega arith);
   next = λ party c. absurd (let l = c.1 in omega arith);
@@ -55,6 +57,7 @@ among_members (q ∷ qs) party z c e = elim (Contains-append_cases (q ∷ []) qs
 
 one_party : (persons : List AgentData) (parties : List (List ℕ)) (party : List ℕ) → AreNewParties persons parties → IsNewParty persons parties party → AreNewParties persons (parties ++ party ∷ [])
 one_party persons parties party k f = record {
+  few = λ x. at_most x (is_among x party) refl;
   within = λ q c. elim (Contains-append_cases parties (party ∷ []) q c) [
     | inl had ↦ k.within q had
     | inr now ↦ subst (λ (y : List ℕ). (j : ℕ) → j < length y → get_or y j 0 < length persons) (only_one now) (λ j l. All-get_or (IsOnLeft (Room persons)) party j 0 l f.1)
@@ -70,6 +73,10 @@ one_party persons parties party k f = record {
   ];
 }
   where
+    at_most : (x : ℕ) (t : Bool) → is_among x party ≡ t → count_by (λ y. y == x) (members_of (parties ++ party ∷ [])) ≤ 1
+    at_most x true e = omega (arith, f.0 x (of_among party x e))
+    at_most x false e = omega (arith, times_more parties party x, none_times x party e, k.few x)
+
     one : (j : ℕ) → j < length party → count_by (λ y. y == get_or party j 0) (members_of (parties ++ party ∷ [])) ≡ 1
     one j l = f.0 (get_or party j 0) (of_among party (get_or party j 0) (is_among-get_or party j l))
 
@@ -103,7 +110,7 @@ one_party persons parties party k f = record {
         go true e = absurd (false≢true (sym (old (get_or party j 0) e) ∙ is_among-get_or party j l))
 
 -- The first of an odd party stands in an odd party of the permutation.
-module _ (persons : List AgentData) (parties : List (List ℕ)) (k : AreNewParties persons parties) (party : List ℕ) (c : Contains parties party) (half : ℕ) (three : 0 < half) (odd : length party ≡ 2 * half + 1) where
+module _ (persons : List AgentData) (parties : List (List ℕ)) (k : AreNewParties persons parties) (party : List ℕ) (c : Contains parties party) where
   step : (j : ℕ) → j < length party → successor_in (nexts_of persons parties) (get_or party j 0) ≡ follower party j
   step j l =
       let inside = k.within party c j l in
@@ -126,8 +133,8 @@ module _ (persons : List AgentData) (parties : List (List ℕ)) (k : AreNewParti
       ap (successor_in (nexts_of persons parties)) (steps n l) ∙ step n l
       ∙ ap (λ t. get_or party (cond t 0 (n + 1)) 0) last
 
-  in_odd : IsInOddParty (lists_of persons) (nexts_of persons parties) (get_or party 0 0)
-  in_odd = record {
+  in_odd : (half : ℕ) → 0 < half → length party ≡ 2 * half + 1 → IsInOddParty (lists_of persons) (nexts_of persons parties) (get_or party 0 0)
+  in_odd half three odd = record {
     in_range = (let first = k.within party c 0 (omega arith) in let long = length-map persons (λ (person : AgentData). person.entries) in omega arith);
     half = half;
     three = three;
@@ -155,12 +162,22 @@ new_at persons lines k all h = go (slice_get lines k) refl h
 
 -- the law of a yes on parties of roommates
 pub none_yes : NoneYes
-none_yes persons lines g none mates stable =
+none_yes persons lines g none =
     let r = right_parties g none in
-    let same : parties_in r.front ≡ parties_in lines = said_above party_in r refl in
+    let parties = parties_in lines in
+    let same : parties_in r.front ≡ parties = said_above party_in r refl in
     let whole = subst (IsWholePartition persons) same ((at_closing r reason.NotPartition).1 refl) in
     let odd = subst HasOddParty same (at_closing r reason.NoOddParty refl) in
     let k = grown party_in (AreNewParties persons) (IsNewParty persons) lines (no_party persons) (one_party persons)
     (λ k. new_at persons lines k g.answer.right (each_line r reason.NotPartition {Q = λ above line. IfSome (party_in line) (AreNew (parties_in above))} (λ above line h. h.0) k)) in
-    odd_party_excludes (lists_of persons) (nexts_of persons (parties_in lines)) (get_or odd.party 0 0) mates whole.partition
-    (in_odd persons (parties_in lines) k odd.party odd.there odd.half odd.three odd.odd) stable
+    let member = in_odd persons parties k odd.party odd.there odd.half odd.three odd.odd in
+    record {
+      next = nexts_of persons parties;
+      partition = whole.partition;
+      once = λ x less.
+          let there = stands_at x (members_of parties) (whole.all x less) in
+          omega (arith, k.few x, once_least x (members_of parties) there.at there.on_list there.is);
+      along = step persons parties k;
+      odd = odd;
+      none = λ mates. odd_party_excludes (lists_of persons) (nexts_of persons parties) (get_or odd.party 0 0) mates whole.partition member;
+    }

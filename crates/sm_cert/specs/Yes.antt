@@ -1,5 +1,5 @@
 -- What a yes on an answer means.
-use Rattle.std.specs.Prelude.{◌≡◌, ◌≢◌, ℕ, ◌+◌, ◌<◌, ◌≤◌, ◌↔◌, List, [], ◌∷◌, length, filter_map, Option, None, Some, slice_index_or, Contains, Bool, true}
+use Rattle.std.specs.Prelude.{◌≡◌, ◌≢◌, ℕ, ◌+◌, ◌<◌, ◌≤◌, ◌↔◌, List, [], ◌∷◌, length, filter_map, take, ◌==◌, if◌then◌else◌, count_by, Option, None, Some, slice_index, slice_index_or, Contains, Bool, true}
 use Rattle.std.specs.List.{slice_get}
 use Rattle.sm_instance.specs.Written.{Written, AgentData, lists_of}
 use Rattle.sm_instance.specs.Stable.{IsStable, IsBestOf}
@@ -19,7 +19,8 @@ use Rattle.sm_theory.specs.Net.{Net, cut_of}
 use Rattle.sm_theory.specs.Flows.{IsFlow, flow_value}
 use Rattle.sm_theory.specs.FlowLines.{amount_on}
 use Rattle.sm_theory.specs.declared.flow_lines.FlowLine.{FlowLine}
-use Rattle.sm_theory.specs.Listings.{IsBehind}
+use Rattle.sm_theory.specs.Listings.{IsBehind, end_of}
+use Rattle.sm_theory.specs.Partitions.{IsStablePartition, successor_in}
 use Rattle.sm_theory.specs.Rooms.{mate_of, IsRoomStable}
 use Rattle.sm_theory.specs.declared.choice.Choice.{Choice}
 use Rattle.sm_theory.specs.declared.choice.Choice.TheVariants.{Better, Worse}
@@ -33,8 +34,9 @@ use Rattle.sm_report.specs.Lines.{LineData}
 use Rattle.sm_check_clauses.specs.declared.verdicts.Verdict.TheVariants as verdict
 use Rattle.sm_check_clauses.specs.Verdicts.{IsVerdict}
 use Rattle.sm_check_forms.specs.Forms.{AreAnswer}
-use Rattle.sm_check_clauses.specs.Said.{pairs_in, firsts_in, lasts_in, proposer_lists_in, reviewer_lists_in, rotations_in, all_needs_in, lefts_in, rights_in, regret_in, total_in, second_total_in, vectors_in}
+use Rattle.sm_check_clauses.specs.Said.{pairs_in, firsts_in, lasts_in, proposer_lists_in, reviewer_lists_in, rotations_in, all_needs_in, lefts_in, rights_in, regret_in, total_in, second_total_in, vectors_in, parties_in}
 use Rattle.sm_check_clauses.specs.Chain.{HasOneEach, owners, IsRowOf}
+use Rattle.sm_check_clauses.specs.Rooming.{members_of, HasOddParty}
 use Rattle.sm_check_clauses.specs.Judging.{Holds}
 use Rattle.sm_check_clauses.specs.Flows.{net_in, flow_of, first_level, second_level, taken_set}
 use Rattle.sm_instance.specs.Lightest.{IsLightestByBoth}
@@ -54,10 +56,15 @@ pub record AreListed (w : Written) (after : Option (List ℕ)) (limit : ℕ) (ve
   pub begins : 0 < length vectors → IsBehind (IsBefore (order_of w)) after (slice_index_or vectors 0 [])
   pub rises : (k : ℕ) → k + 1 < length vectors → IsBefore (order_of w) (slice_index_or vectors k []) (slice_index_or vectors (k + 1) [])
 
+-- a list that is broken off has as many vectors as the limit, and the last one is repeated
+abbrev pub IsBrokenOff : Option (List ℕ) → ℕ → List LineData → Type 0
+IsBrokenOff after limit lines = (k : ℕ) (v : List ℕ) → slice_get lines k ≡ Some (LineData.More v)
+    → let above = vectors_in (take k lines) in (length above ≡ limit) × (end_of after above ≡ Some v)
+
 -- a yes on `list`
 abbrev pub ListYes : Type 0
 ListYes = (w : Written) (after : Option (List ℕ)) (limit : ℕ) (lines : List LineData)
-    → GetsYes (Two w) (HeadData.List after limit) lines → AreListed w after limit (vectors_in lines)
+    → GetsYes (Two w) (HeadData.List after limit) lines → AreListed w after limit (vectors_in lines) × IsBrokenOff after limit lines
 
 -- no two pairs begin with one agent
 abbrev pub AreApart : List (ℕ × ℕ) → Type 0
@@ -124,10 +131,21 @@ abbrev pub CouplesYes : Type 0
 CouplesYes = (persons : List AgentData) (lines : List LineData) → GetsYes (Room persons) (HeadData.Solve None) lines
     → slice_get lines 1 ≢ Some LineData.Nothing → IsCoupled persons (pairs_in lines)
 
+-- parties of roommates for which there is no stable matching: they are those of a stable partition, where each person stands once,
+-- before its successor, and one of them is odd and has three or more members
+pub record AreExcludingParties (persons : List AgentData) (parties : List (List ℕ)) : Type 0 where
+  pub next : List ℕ
+  pub partition : IsStablePartition (lists_of persons) next
+  pub once : (x : ℕ) → x < length persons → count_by (λ y. y == x) (members_of parties) ≡ 1
+  pub along : (party : List ℕ) → Contains parties party → (j : ℕ) → j < length party
+      → successor_in next (slice_index party j) ≡ slice_index party (if j + 1 == length party then 0 else j + 1)
+  pub odd : HasOddParty parties
+  pub none : (mates : List (Option ℕ)) → ¬ IsRoomStable (lists_of persons) mates
+
 -- and where there is said to be none
 abbrev pub NoneYes : Type 0
 NoneYes = (persons : List AgentData) (lines : List LineData) → GetsYes (Room persons) (HeadData.Solve None) lines
-    → slice_get lines 1 ≡ Some LineData.Nothing → (mates : List (Option ℕ)) → ¬ IsRoomStable (lists_of persons) mates
+    → slice_get lines 1 ≡ Some LineData.Nothing → AreExcludingParties persons (parties_in lines)
 
 -- the lists are those of all agents, each of them once
 pub record AreAllLists (rows : List (List ℕ)) (lists : List (ℕ × List ℕ)) : Type 0 where

@@ -1,7 +1,7 @@
 //! The laws of verdicts, and what a yes means. Each function does nothing: its contract is the law, a statement
 //! over the definitions alone.
 
-ghost use Rattle.sm_cert.specs.Laws.{OneVerdict, OneJudgement, JudgedIsntBad};
+ghost use Rattle.sm_cert.specs.Laws.{OneVerdict, OneJudgement, JudgedIsntBad, OneMisplaced};
 ghost use Rattle.sm_cert.specs.Yes.{ListYes, SolveYes, CouplesYes, NoneYes, RegretYes, MeetYes, JoinYes, ReducedYes, RotationsYes, WeightYes};
 
 /// There is no more than one verdict on an answer.
@@ -19,7 +19,13 @@ pub fn judged_isnt_bad()
     ensures { JudgedIsntBad }
 {}
 
-/// Where an answer of `list` gets a yes, its vectors are those of allowed stable matchings, and rise from the cursor.
+/// No more than one line of a text is the first that isn't of the form of an answer.
+pub fn one_misplaced()
+    ensures { OneMisplaced }
+{}
+
+/// Where an answer of `list` gets a yes, its vectors are those of allowed stable matchings, and rise from the cursor. If it ends with
+/// `more`, they are as many as the limit, and `more` repeats the last one.
 pub fn list_yes()
     ensures { ListYes }
 {}
@@ -36,7 +42,8 @@ pub fn couples_yes()
     ensures { CouplesYes }
 {}
 
-/// Where an answer of `solve` over roommates says that there is no stable matching and gets a yes, there is none.
+/// Where an answer of `solve` over roommates says that there is no stable matching and gets a yes, there is none: its parties are
+/// those of a stable partition, each person stands once in them, and one of them is odd.
 pub fn none_yes()
     ensures { NoneYes }
 {}

@@ -37,7 +37,7 @@ times_other : (x y : ℕ) (ys : List ℕ) → y ≢ x → count_by (λ z. z == x
 times_other x y ys ne = times_next x y ys ∙ ap (λ b. cond b 1 0 + count_by (λ z. z == x) ys) (ne_eqb y x ne)
 
 -- nowhere
-none_times : (x : ℕ) (xs : List ℕ) → is_among x xs ≡ false → count_by (λ z. z == x) xs ≡ 0
+pub none_times : (x : ℕ) (xs : List ℕ) → is_among x xs ≡ false → count_by (λ z. z == x) xs ≡ 0
 none_times x [] e = refl
 none_times x (y ∷ ys) e = ⊎_elim
     (λ (is : y ≡ x). let t = eq-eqb y x is in absurd (false≢true (sym (rw t at e))))
