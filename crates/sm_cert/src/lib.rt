@@ -11,3 +11,4 @@ pub mod witnesses;
 
 pub use checking::check;
 pub use faults::CertFault;
+pub use sm_check_clauses::{Reason, Verdict};
