@@ -7,7 +7,7 @@ ghost use Rattle.sm_instance.specs.Matching.{IsMatching};
 ghost use Rattle.sm_instance.specs.Ranks.{second_of};
 ghost use Rattle.sm_seats.specs.Seating.{seating_of, levels_of};
 ghost use Rattle.sm_seats.specs.Correspondence.{IsSeating, leveled, weights_of};
-ghost use Rattle.sm_weight.specs.Lightest.{IsLightestFound};
+ghost use Rattle.sm_weight.specs.Lightest.{IsLightestFound, IsNothingAllowed};
 ghost use Rattle.sm_placed.specs.PlaceWeights.{AreLight};
 ghost use Rattle.sm_placed.specs.Levels.{seconds_by};
 ghost use Rattle.sm_answer_weight.specs.WeightAnswer.{shown_node};
@@ -17,10 +17,10 @@ use crate::lightest_parts::Lightest;
 use sm_answer_rotations::{Basis, conditions_of};
 use sm_instance::{Assignment, Instance, Measure};
 use sm_placed::{has_two_levels, seconds_of_places, weights_of_places};
-use sm_poset::Conditions;
+use sm_poset::Poset;
 use sm_seats::Seats;
 use sm_theory::FlowLine;
-use sm_weight::LightestFound;
+use sm_weight::{LightestFound, lightest, lightest_by_one_sum};
 use std::alloc::{AllocError, Global};
 
 /// The lightest stable matching among those that the conditions of an instance allow, of those of its weight one whose second sum is
@@ -46,20 +46,41 @@ pub fn find_lightest(
         (λ f. (f.by ≡ by) × IsLightestOfSeats instance.now seats.now f)) }
 {
     let basis = Basis::of(alloc, seats)?;
-    let levels = seats.levels(alloc)?;
-    let weights = weights_of_places(alloc, instance, seats, by, &levels)?;
-    let seconds = seconds_of_places(alloc, instance, seats, by, &levels)?;
-    let conditions = conditions_of(alloc, instance)?;
-    match sm_weight::lightest(
-        alloc,
-        &basis.poset,
-        &levels,
-        &weights,
-        &seconds,
-        &conditions,
-    )? {
+    match find_set(alloc, instance, seats, by, &basis.poset)? {
         Some(found) => Ok(Some(read_off(alloc, instance, seats, by, basis, found)?)),
         None => Ok(None),
+    }
+}
+
+/// The same in the market of the seats, by its closed set and its flows. In one level no second weight is looked up.
+fn find_set(
+    alloc: Global,
+    instance: &Instance,
+    seats: &Seats,
+    by: Measure,
+    poset: &Poset,
+) -> Result<Option<LightestFound>, AllocError>
+    requires seats { seats.now ≡ seating_of instance.now }
+    requires seating { IsSeating instance.now seats.now }
+    requires market { poset.now.lists ≡ seats.now.market }
+    ensures found { IfOk result (λ found. MatchOption found
+        (IsNothingAllowed poset.now (levels_of seats.now)
+        (leveled instance.now instance.now.forced) (leveled instance.now instance.now.forbidden))
+        (λ f. IsLightestFound poset.now (levels_of seats.now)
+        (weights_of by instance.now seats.now) (seconds_by by instance.now seats.now)
+        (leveled instance.now instance.now.forced) (leveled instance.now instance.now.forbidden)
+        f)) }
+    ensures light { IfOk result (λ _. AreLight (weights_of by instance.now seats.now)) }
+    ensures second_light { IfOk result (λ _. AreLight (seconds_by by instance.now seats.now)) }
+{
+    let levels = seats.levels(alloc)?;
+    let weights = weights_of_places(alloc, instance, seats, by, &levels)?;
+    let conditions = conditions_of(alloc, instance)?;
+    if has_two_levels(instance, by) {
+        let seconds = seconds_of_places(alloc, instance, seats, by, &levels)?;
+        lightest(alloc, poset, &levels, &weights, &seconds, &conditions)
+    } else {
+        lightest_by_one_sum(alloc, poset, &levels, &weights, &conditions)
     }
 }
 

@@ -13,7 +13,3 @@ ArePlaces weights places = (p i : ℕ) → held places p ≡ Some i → i < leng
 -- the weight of the places that the proposers of the first n pairs hold
 abbrev pub weight_held : List (List ℤ) → List (Option ℕ) → List (ℕ × ℕ) → ℕ → ℤ
 weight_held weights places pairs n = total (λ i. weight_of_place weights (proposer_at pairs i) (held places (proposer_at pairs i))) n
-
--- no place has another weight than 0
-abbrev pub AreZero : List (List ℤ) → Type 0
-AreZero weights = (p i : ℕ) → weight_at weights p i ≡ pos 0

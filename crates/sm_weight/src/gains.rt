@@ -10,19 +10,35 @@ ghost use Rattle.sm_theory.specs.Rotations.{proposer_at, IsExposed, eliminated};
 ghost use Rattle.sm_theory.specs.Chains.{IsCompleteChain};
 ghost use Rattle.sm_theory.specs.Values.{rotations_of};
 ghost use Rattle.sm_theory.specs.Weights.{gain_of, weight_of_place};
-ghost use Rattle.sm_weight.specs.Sizes.{weights_in, AreWeights, AreSmall, AreZero, ArePlaces, weight_held};
+ghost use Rattle.sm_weight.specs.Sizes.{weights_in, AreWeights, AreSmall, ArePlaces, weight_held};
+ghost use Rattle.sm_weight.specs.Lightest.{AreGains};
 
-use crate::second::are_zero;
 use sm_market::{Market, Pairing};
+use sm_poset::Poset;
 use sm_rotations::eliminate;
 use sm_theory::{Chain, Rotation};
 use std::alloc::{AllocError, Global};
+
+/// For each rotation of a poset the weight of its new pairs less that of its old ones.
+///
+/// Takes time in proportion to the places by which proposers move, and memory for one pairing and for the gains.
+pub(crate) fn gains(
+    alloc: Global,
+    poset: &Poset,
+    weights: &[Vec<i64>],
+) -> Result<Vec<i64>, AllocError>
+    requires weights { AreWeights poset.now.lists (weights_in weights.now) }
+    ensures gains { IfOk result (λ gains. AreGains poset.now (weights_in weights.now) gains.items) }
+    ensures small { IfOk result (λ gains. sum_by unsigned_abs gains.items ≤ 2 ^ 55) }
+{
+    gains_along(alloc, poset.market(), poset.chain(), weights)
+}
 
 /// For each rotation of a market's complete chain the weight of its new pairs less that of its old ones.
 ///
 /// Goes down the chain once, in time in proportion to the places by which proposers move, and takes memory for one pairing and
 /// for the gains.
-pub(crate) fn gains(
+fn gains_along(
     alloc: Global,
     market: &Market,
     chain: &Chain,
@@ -45,43 +61,6 @@ pub(crate) fn gains(
         gains.push(turn(market, &mut m, &chain.rotations[k], weights))?;
     }
     Ok(gains)
-}
-
-/// The same of weights that may all be 0: the gains are 0 then, and nobody goes down the chain for them.
-pub(crate) fn gains_or_zeros(
-    alloc: Global,
-    market: &Market,
-    chain: &Chain,
-    weights: &[Vec<i64>],
-) -> Result<Vec<i64>, AllocError>
-    requires market { IsMarket market.now }
-    requires limits { IsWithinLimits market.now }
-    requires made { IsPairingOf market.now chain.now.first }
-    requires complete { IsCompleteChain market.now chain.now.first.places
-        (rotations_of chain.now.rotations.items) }
-    requires weights { AreWeights market.now (weights_in weights.now) }
-    ensures gains { IfOk result (λ gains. gains.items
-        ≡ map (gain_of market.now (weights_in weights.now))
-        (rotations_of chain.now.rotations.items)) }
-    ensures small { IfOk result (λ gains. sum_by unsigned_abs gains.items ≤ 2 ^ 55) }
-{
-    if weigh_nothing(weights) {
-        Ok(vec![in alloc; 0; chain.rotations.len()]?)
-    } else {
-        gains(alloc, market, chain, weights)
-    }
-}
-
-/// `true` only where each weight is 0.
-fn weigh_nothing(weights: &[Vec<i64>]) -> bool
-    ensures { result ≡ true → AreZero (weights_in weights.now) }
-{
-    'rows: for p in 0..weights.len() {
-        if !are_zero(&weights[p]) {
-            return false;
-        }
-    }
-    true
 }
 
 /// Eliminates a rotation and gives the weight of its new pairs less that of its old ones.

@@ -20,4 +20,5 @@ mod weighing;
 
 pub use edges::Edge;
 pub use second::{TwoCuts, least_cuts};
-pub use weighing::{LightestFound, lightest};
+pub use sm_theory::FlowLine;
+pub use weighing::{LightestFound, lightest, lightest_by_one_sum};

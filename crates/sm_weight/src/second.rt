@@ -101,8 +101,8 @@ fn without_second(alloc: Global, first: LeastCut) -> TwoCuts
     }
 }
 
-/// Whether all of these gains or weights are 0.
-pub(crate) fn are_zero(gains: &[i64]) -> bool
+/// Whether all of these gains are 0.
+fn are_zero(gains: &[i64]) -> bool
     ensures { IsTrue result ↔ ((k : ℕ) → gain_at gains.now k ≡ pos 0) }
 {
     for k in 0..gains.len() {

@@ -7,7 +7,7 @@ use Rattle.sm_theory.specs.Chains.{rotation_at, stage}
 use Rattle.sm_theory.specs.Values.{rotations_of}
 use Rattle.sm_theory.specs.Weights.{gain_of}
 use Rattle.sm_weight.specs.Sizes.{weights_in}
-use Rattle.sm_weight.proofs.gains.gains.Given as goal
+use Rattle.sm_weight.proofs.gains.gains_along.Given as goal
 
 abbrev pub invariant-loop-k : goal.invariant-loop-k
 invariant-loop-k l = record {
