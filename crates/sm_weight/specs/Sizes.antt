@@ -1,8 +1,8 @@
 -- Weights of the places that are held.
-use Rattle.std.specs.Prelude.{◌≡◌, ℕ, ◌<◌, List, Option, Some, ℤ, pos, length}
+use Rattle.std.specs.Prelude.{◌≡◌, ℕ, ◌<◌, List, Option, Some, ℤ, length}
 use Rattle.sm_market.specs.Matching.{held}
 use Rattle.sm_theory.specs.Rotations.{proposer_at}
-use Rattle.sm_theory.specs.Weights.{total, weight_at, weight_of_place}
+use Rattle.sm_theory.specs.Weights.{total, weight_of_place}
 -- passed on under their names
 pub use Rattle.sm_theory.specs.Sizes.{weights_in, place_weights, AreSmall, AreWeights}
 
