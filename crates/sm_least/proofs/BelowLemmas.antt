@@ -29,10 +29,10 @@ use Rattle.sm_board.proofs.BoardBridge.{board, place, many, all_moves, stands, l
 use Rattle.sm_board.proofs.BoardSets.{closed_back, has_level, has_level_back, stay_in, gates_mean_conditions}
 use Rattle.sm_least.specs.Gates.{AreUnbounded, AreWide}
 use Rattle.sm_theory.specs.Regrets.{AreRanks, IsBestBelow}
-use Rattle.sm_least.specs.Regrets.{rank_of_level, IsRanked, AreOpenUpTo, AreAtStays, rank_now, greatest_of}
+use Rattle.sm_least.specs.Regrets.{rank_of_level, IsRanked, ranks_along, AreOpenUpTo, AreAtStays, rank_now, greatest_of}
 use Rattle.sm_least.proofs.SearchLemmas.{nothing_excluded, proposers_for}
 use Rattle.sm_theory.proofs.Weighing.Regrets.{regret_by_bound}
-use Rattle.sm_least.proofs.RegretLemmas.{rank_of_level-at}
+use Rattle.sm_least.proofs.RegretLemmas.{rank_of_level-at, low_along}
 
 module _ {l : Lists} {levels : List (List ℕ)} {first : Places} {rotations : List (List (ℕ × ℕ))} {needs : List (List ℕ)} {moves : List (List (ℕ × ℕ))} (ground : IsGround l levels first rotations needs moves) where
   -- who is matched has all its stays on its list
@@ -80,7 +80,7 @@ module _ {l : Lists} {levels : List (List ℕ)} {first : Places} {rotations : Li
           (has.0, ap (rank_of_level (row levels p) (row ranks p)) has.1 ∙ rank_of_level-at ground.rising w p i (st.matching.proposers.on_list p i e))
 
       -- what fits the gates of a bound fits those without, and its matching has a regret within the bound
-      below_fits : {g0 g1 : Gates} {bound : ℕ} → AreOpenUpTo (board ground) levels ranks bound g0 g1 → Fits (board ground) g1 C → Fits (board ground) g0 C × (regret_of l ranks (matching_of l first rotations C) ≤ bound)
+      below_fits : {g0 g1 : Gates} {bound : ℕ} → AreOpenUpTo (board ground) (ranks_along (board ground) levels ranks) bound g0 g1 → Fits (board ground) g1 C → Fits (board ground) g0 C × (regret_of l ranks (matching_of l first rotations C) ≤ bound)
       below_fits {g0} {g1} {bound} below f = (
         record { closed = f.closed; opens = λ p in_it. (now p in_it).0 },
         (regret_by_bound l ranks (matching_of l first rotations C) bound st.matching).1 (λ p i e.
@@ -97,18 +97,21 @@ module _ {l : Lists} {levels : List (List ℕ)} {first : Places} {rotations : Li
 
           now : (p : ℕ) → p < length (board ground).leaves
               → IsOpen g0 p (stay (board ground) C p) × (slice_index_or (board ground).matched p false ≡ true → rank_of_level (row levels p) (row ranks p) (stay_level (board ground) p (stay (board ground) C p)) ≤ bound)
-          now p in_it = (below p (stay (board ground) C p) in_it (stay_in ground c p (omega (arith, many ground)))).0 (f.opens p in_it)
+          now p in_it =
+              let on : stay (board ground) C p < length (row (board ground).levels p) = stay_in ground c p (omega (arith, many ground)) in
+              let o = (below p (stay (board ground) C p) in_it on).0 (f.opens p in_it) in
+              (o.0, (low_along (board ground) levels ranks bound p (stay (board ground) C p) in_it on).0 o.1)
 
       -- and back
-      fits_below : {g0 g1 : Gates} {bound : ℕ} → AreOpenUpTo (board ground) levels ranks bound g0 g1 → Fits (board ground) g0 C → regret_of l ranks (matching_of l first rotations C) ≤ bound → Fits (board ground) g1 C
+      fits_below : {g0 g1 : Gates} {bound : ℕ} → AreOpenUpTo (board ground) (ranks_along (board ground) levels ranks) bound g0 g1 → Fits (board ground) g0 C → regret_of l ranks (matching_of l first rotations C) ≤ bound → Fits (board ground) g1 C
       fits_below {g0} {g1} {bound} below f low = record {
         closed = f.closed;
         opens = λ p in_it. (below p (stay (board ground) C p) in_it (stay_in ground c p (omega (arith, many ground)))).1 (
           f.opens p in_it,
-          λ matched.
+          (low_along (board ground) levels ranks bound p (stay (board ground) C p) in_it (stay_in ground c p (omega (arith, many ground)))).1 (λ matched.
               let has = has_level_back ground c p (level (board ground) C p) matched refl in
               let r = rank_held p has.place has.holds in
-              omega (arith, r.1, (regret_by_bound l ranks (matching_of l first rotations C) bound (st.matching)).0 low p has.place has.holds),
+              omega (arith, r.1, (regret_by_bound l ranks (matching_of l first rotations C) bound (st.matching)).0 low p has.place has.holds)),
         );
       }
         where
@@ -160,13 +163,13 @@ record Fitted (poset : RotationPoset) (b : Board) (g : Gates) (n : Places) : Typ
 
 module _ {poset : RotationPoset} {levels ranks : List (List ℕ)} {b c : Board} {bound : ℕ} {forced forbidden : List (ℕ × ℕ)} (g0 g1 : Gates)
     (w : IsBoardFor poset levels b) (in_range : AreInRange (length poset.lists.proposers) forced) (r : AreRanks poset.lists levels ranks)
-    (e : c ≡ b) (u : AreUnbounded c forced forbidden g0) (below : AreOpenUpTo c levels ranks bound g0 g1) where
+    (e : c ≡ b) (u : AreUnbounded c forced forbidden g0) (below : AreOpenUpTo c (ranks_along c levels ranks) bound g0 g1) where
   -- the gates of the conditions, for the board of the poset
   gates_for : AreGates (board w.ground) u.low u.high forced forbidden g0
   gates_for = subst (λ d. AreGates d u.low u.high forced forbidden g0) (e ∙ w.is) u.gates
 
-  below_for : AreOpenUpTo (board w.ground) levels ranks bound g0 g1
-  below_for = subst (λ d. AreOpenUpTo d levels ranks bound g0 g1) (e ∙ w.is) below
+  below_for : AreOpenUpTo (board w.ground) (ranks_along (board w.ground) levels ranks) bound g0 g1
+  below_for = subst (λ d. AreOpenUpTo d (ranks_along d levels ranks) bound g0 g1) (e ∙ w.is) below
 
   fitted : (n : Places) → IsStable poset.lists n → IsAllowed levels forced forbidden n → regret_of poset.lists ranks n ≤ bound → Fitted poset (board w.ground) g1 n
   fitted n stable allowed low =

@@ -1,16 +1,16 @@
 -- Gates: bounds that forced levels narrow.
-use Rattle.std.proofs.Common.{◌≡◌, ◌≢◌, ◌↔◌, ℕ, ◌+◌, ◌<◌, ◌≤◌, inl, inr, arith, refl, sym, ap, ◌∙◌, subst, List, length, Bool, true, false, slice_index, slice_index_or, set, [], Vec}
+use Rattle.std.proofs.Common.{◌≡◌, ◌≢◌, ◌↔◌, ℕ, ◌+◌, ◌-◌, ◌<◌, ◌≤◌, inl, inr, arith, refl, sym, ap, ◌∙◌, subst, List, length, Bool, true, false, slice_index, slice_index_or, set, [], Vec}
 use Rattle.std.specs.declared.alloc.Global.{Global}
 use Rattle.std.specs.Vec.{with_items, vec_len}
 use Rattle.std.proofs.lemmas.List.{get_or-set_same, get_or-set_other, length-set, map-set}
 use Rattle.sm_market.specs.Lists.{row}
 use Rattle.sm_lists.proofs.ResultLemmas.{take-append_at_length}
 use Rattle.sm_lists.proofs.Counting.{eq_or_ne, lt_or_le}
-use Rattle.sm_lists.specs.Rows.{place_on}
+use Rattle.sm_lists.specs.Rows.{place_on, entry}
 use Rattle.sm_lists.proofs.PlaceLemmas.{get_or-place_on, get_or_before-place_on}
 use Rattle.sm_least.specs.Steps.{IsNarrowed, AreShut, rows_in, AreRowsFor, AreAvoided, NeverFall, IsDivided}
 use Rattle.sm_least.specs.Gates.{AreGatesOf}
-use Rattle.sm_least.specs.Regrets.{IsLow, AreShutAbove, AreOpenUpTo}
+use Rattle.sm_least.specs.Regrets.{AreShutAbove, AreOpenUpTo}
 use Rattle.sm_board.specs.Board.{Board, IsBoard, stay_level, Gates, is_shut}
 use Rattle.sm_board.specs.BoardOf.{IsAllowedStay, AreGates}
 use Rattle.std.proofs.lemmas.Bool.{false≢true}
@@ -189,13 +189,13 @@ gates_right {b} {g} {low} {high} {lower} {upper} {forced} {forbidden} between h 
     )
 
 -- the stays of one more proposer are cut
-pub cut_more : {b : Board} {levels ranks : List (List ℕ)} {bound : ℕ} {before after : List (List Bool)} (p : ℕ) (new : List Bool) → p < length b.levels → length new ≡ length (row b.levels p)
-    → ((a : ℕ) → a < length (row b.levels p) → (slice_index_or new a false ≡ false) ↔ (slice_index_or (slice_index_or after p []) a false ≡ false) × IsLow b levels ranks bound p a)
-    → AreShutAbove b levels ranks bound p before after → AreShutAbove b levels ranks bound (p + 1) before (set after p new)
-cut_more {b} {levels} {ranks} {bound} {before} {after} p new in_it e one w = record {
+pub cut_more : {b : Board} {ranks : List (List ℕ)} {bound : ℕ} {before after : List (List Bool)} (p : ℕ) (new : List Bool) → p < length b.levels → length new ≡ length (row b.levels p)
+    → ((a : ℕ) → (slice_index_or new a false ≡ false) ↔ (slice_index_or (slice_index_or after p []) a false ≡ false) × (entry ranks p a ≤ bound))
+    → AreShutAbove b ranks bound p before after → AreShutAbove b ranks bound (p + 1) before (set after p new)
+cut_more {b} {ranks} {bound} {before} {after} p new in_it e one w = record {
   rows = rows_written p new in_it e w.rows;
   opens = λ q a less few. elim (eq_or_ne q p) [
-    | inl same ↦ subst (Opens a) (sym same) (own a (omega (arith, few, ap (λ r. length (row b.levels r)) same)))
+    | inl same ↦ subst (Opens a) (sym same) (own a)
     | inr ne ↦
         let row_is = ap (λ r. slice_index_or r a false) (get_or-set_other after p q new [] ne) in
         let old = w.opens q a (omega arith) few in ((λ x. old.0 (sym row_is ∙ x)), (λ x. row_is ∙ old.1 x))
@@ -204,38 +204,22 @@ cut_more {b} {levels} {ranks} {bound} {before} {after} p new in_it e one w = rec
 }
   where
     Opens : ℕ → ℕ → Type 0
-    Opens a q = ((slice_index_or (slice_index_or (set after p new) q []) a false ≡ false) → (slice_index_or (slice_index_or before q []) a false ≡ false) × IsLow b levels ranks bound q a)
-        × ((slice_index_or (slice_index_or before q []) a false ≡ false) × IsLow b levels ranks bound q a → slice_index_or (slice_index_or (set after p new) q []) a false ≡ false)
+    Opens a q = ((slice_index_or (slice_index_or (set after p new) q []) a false ≡ false) → (slice_index_or (slice_index_or before q []) a false ≡ false) × (entry ranks q a ≤ bound))
+        × ((slice_index_or (slice_index_or before q []) a false ≡ false) × (entry ranks q a ≤ bound) → slice_index_or (slice_index_or (set after p new) q []) a false ≡ false)
 
-    own : (a : ℕ) → a < length (row b.levels p) → Opens a p
-    own a few =
+    own : (a : ℕ) → Opens a p
+    own a =
         let row_is = ap (λ r. slice_index_or r a false) (get_or-set_same after p new [] (omega (arith, w.rows.one_each))) in
         let was = ap (λ r. slice_index_or r a false) (w.left p (omega arith)) in (
-          (λ x. let y = (one a few).0 (sym row_is ∙ x) in (sym was ∙ y.0, y.1)),
-          (λ x. row_is ∙ (one a few).1 (was ∙ x.0, x.1)),
+          (λ x. let y = (one a).0 (sym row_is ∙ x) in (sym was ∙ y.0, y.1)),
+          (λ x. row_is ∙ (one a).1 (was ∙ x.0, x.1)),
         )
-
--- the stays of one more proposer stay, since it is unmatched
-pub cut_same : {b : Board} {levels ranks : List (List ℕ)} {bound : ℕ} {before after : List (List Bool)} (p : ℕ) → slice_index_or b.matched p false ≡ false
-    → AreShutAbove b levels ranks bound p before after → AreShutAbove b levels ranks bound (p + 1) before after
-cut_same {b} {levels} {ranks} {bound} {before} {after} p alone w = record {
-  rows = w.rows;
-  opens = λ q a less few. elim (eq_or_ne q p) [
-    | inl same ↦
-        let was = ap (λ r. slice_index_or r a false) (w.left q (omega arith)) in (
-          (λ x. (sym was ∙ x, λ matched. absurd (false≢true (sym alone ∙ ap (λ k. slice_index_or b.matched k false) (sym same) ∙ matched)))),
-          (λ x. was ∙ x.0),
-        )
-    | inr ne ↦ w.opens q a (omega arith) few
-  ];
-  left = λ q le. w.left q (omega arith);
-}
 
 -- what is open once all stays are cut is what was and has a rank within the bound
-pub cut_right : {b : Board} {levels ranks : List (List ℕ)} {bound : ℕ} {before after : Gates} → AreGatesOf b before → AreShutAbove b levels ranks bound (length b.leaves) before.shut after.shut
+pub cut_right : {b : Board} {ranks : List (List ℕ)} {bound : ℕ} {before after : Gates} → AreGatesOf b before → AreShutAbove b ranks bound (length b.leaves) before.shut after.shut
     → ((p a : ℕ) → p < length b.leaves → slice_index after.until p ≤ a → a < length (row b.levels p) → is_shut after p a ≡ true)
-    → AreOpenUpTo b levels ranks bound before after
-cut_right {b} {levels} {ranks} {bound} {before} {after} w cut past p a less few = (
+    → AreOpenUpTo b ranks bound before after
+cut_right {b} {ranks} {bound} {before} {after} w cut past p a less few = (
   (λ o.
       let y = (cut.opens p a less few).0 o.unshut in (
         record {
@@ -269,31 +253,18 @@ place_on-divided levels level {n} rising w in_it =
       ]
     ]
 
--- of the first a stays of a row those are open that were and pass, and all others are as they were
-pub record IsRowCut (Passes : ℕ → Type 0) (old now : List Bool) (a : ℕ) : Type 0 where
-  pub cut : (c : ℕ) → c < a → (slice_index_or now c false ≡ false) ↔ (slice_index_or old c false ≡ false) × Passes c
-  pub left : (c : ℕ) → a ≤ c → slice_index_or now c false ≡ slice_index_or old c false
-
--- one more, which is shut
-pub row_shut : (Passes : ℕ → Type 0) {old now : List Bool} (a : ℕ) → a < length now → (Passes a → ⊥) → IsRowCut Passes old now a → IsRowCut Passes old (set now a true) (a + 1)
-row_shut Passes {old} {now} a in_it fails w = record {
-  cut = λ c less. elim (eq_or_ne c a) [
-    | inl same ↦
-        let is : slice_index_or (set now a true) c false ≡ true = ap (λ k. slice_index_or (set now a true) k false) same ∙ get_or-set_same now a true false in_it in
-        ((λ x. absurd (false≢true (sym x ∙ is))), (λ x. absurd (fails (subst Passes same x.1))))
-    | inr ne ↦
-        let is = get_or-set_other now a c true false ne in
-        let before = w.cut c (omega arith) in ((λ x. before.0 (sym is ∙ x)), (λ x. is ∙ before.1 x))
+-- so many are lower where that place has the level or a higher one and the place before it a lower one
+pub divided_at : (levels : List ℕ) (level n : ℕ) → NeverFall levels → n < length levels → level ≤ slice_index levels n → (0 < n → slice_index levels (n - 1) < level) → IsDivided levels level n
+divided_at levels level n rising in_it high low = record {
+  few = omega arith;
+  lower = λ a less.
+      let below = low (omega arith) in
+      elim (eq_or_ne a (n - 1)) [
+        | inl same ↦ let e : slice_index levels a ≡ slice_index levels (n - 1) = ap (slice_index levels) same in omega arith
+        | inr ne ↦ let le = rising a (n - 1) (omega arith) (omega arith) in omega arith
+      ];
+  higher = λ a le few. elim (eq_or_ne a n) [
+    | inl same ↦ let e : slice_index levels a ≡ slice_index levels n = ap (slice_index levels) same in omega arith
+    | inr ne ↦ let up = rising n a (omega arith) few in omega arith
   ];
-  left = λ c le. get_or-set_other now a c true false (λ same. omega arith) ∙ w.left c (omega arith);
-}
-
--- one more, which stays as it was
-pub row_kept : (Passes : ℕ → Type 0) {old now : List Bool} (a : ℕ) → Passes a → IsRowCut Passes old now a → IsRowCut Passes old now (a + 1)
-row_kept Passes {old} {now} a passes w = record {
-  cut = λ c less. elim (eq_or_ne c a) [
-    | inl same ↦ let is = w.left c (omega arith) in ((λ x. (sym is ∙ x, subst Passes (sym same) passes)), (λ x. is ∙ x.0))
-    | inr ne ↦ w.cut c (omega arith)
-  ];
-  left = λ c le. w.left c (omega arith);
 }

@@ -1,17 +1,17 @@
 //! Which stays the bounds and conditions of a search leave open.
 
-ghost use Rattle.std.specs.Prelude.{◌≡◌, ◌≢◌, ℕ, ◌+◌, ◌-◌, ◌<◌, ◌≤◌, ◌↔◌, true, false, [], length, slice_index, slice_index_or, IfOk};
+ghost use Rattle.std.specs.Prelude.{◌≡◌, ◌≢◌, ℕ, ◌+◌, ◌-◌, ◌<◌, ◌≤◌, ◌^◌, ◌↔◌, true, false, [], length, slice_index, slice_index_or, IfOk};
 ghost use Rattle.sm_market.specs.Lists.{row};
 ghost use Rattle.sm_market.specs.Vectors.{rows_of};
 ghost use Rattle.sm_board.specs.Board.{Gates, IsBoard, is_shut};
 ghost use Rattle.sm_board.specs.BoardOf.{AreGates};
 ghost use Rattle.sm_theory.specs.Vectors.{AreInRange};
-ghost use Rattle.sm_lists.specs.Rows.{place_on};
-ghost use Rattle.sm_least.specs.Regrets.{rank_of_level, IsRanked, AreOpenUpTo, AreShutAbove};
+ghost use Rattle.sm_least.specs.Regrets.{AreForStays, AreOpenUpTo, AreShutAbove};
 ghost use Rattle.sm_least.specs.Steps.{IsNarrowed, AreShut, rows_in, AreRowsFor, AreAvoided, NeverFall, IsDivided};
 ghost use Rattle.sm_least.specs.Gates.{AreUnbounded, AreGatesOf};
 
 use sm_board::Board;
+use sm_lists::Rows;
 use sm_poset::Conditions;
 use std::alloc::{AllocError, Global};
 use std::marker::Model;
@@ -74,23 +74,16 @@ impl Gates {
         );
     }
 
-    /// Shuts the stays of matched proposers too whose ranks are above a bound, the ranks being those of their levels. Takes time in
-    /// proportion to the stays of matched proposers, and for each of them to the logarithm of its proposer's places.
-    pub(crate) fn shut_above(
-        &mut self,
-        board: &Board,
-        levels: &[Vec<u32>],
-        ranks: &[Vec<u32>],
-        bound: u32,
-    )
+    /// Shuts the stays too whose ranks are above a bound. Takes time in proportion to the stays of matched proposers.
+    pub(crate) fn shut_above(&mut self, board: &Board, ranks: &Rows, bound: u32)
         requires board { IsBoard board.now }
+        requires few { length board.now.leaves < 2 ^ 32 }
         requires gates { AreGatesOf board.now self.old }
-        requires ranked { IsRanked board.now (rows_of levels.now) (rows_of ranks.now) }
+        requires ranks { AreForStays board.now ranks.now }
         ensures gates { AreGatesOf board.now self.new }
-        ensures open { AreOpenUpTo board.now (rows_of levels.now) (rows_of ranks.now) bound self.old
-            self.new }
+        ensures open { AreOpenUpTo board.now ranks.now bound self.old self.new }
     {
-        cut(board, levels, ranks, bound, &mut self.shut, &mut self.until);
+        cut(board, ranks, bound, &mut self.shut, &mut self.until);
     }
 
     /// Leaves open the stays whose levels lie within the bounds and meet the conditions, and no others. Takes time in
@@ -294,7 +287,7 @@ fn shut_level(levels: &[u32], level: u32, shut: &mut [bool])
 }
 
 /// How many levels are lower than this one, found by bisection.
-fn lower(levels: &[u32], level: u32) -> usize
+pub(crate) fn lower(levels: &[u32], level: u32) -> usize
     requires { NeverFall levels.now }
     ensures { IsDivided levels.now level result }
 {
@@ -378,82 +371,48 @@ fn shut_if(matched: bool, levels: &[u32], level: u32, shut: &mut [bool])
     }
 }
 
-/// Shuts the stays of matched proposers too whose ranks are above a bound.
-fn cut(
-    board: &Board,
-    levels: &[Vec<u32>],
-    ranks: &[Vec<u32>],
-    bound: u32,
-    shut: &mut [Vec<bool>],
-    until: &mut [usize],
-)
+/// Shuts the stays too whose ranks are above a bound.
+fn cut(board: &Board, ranks: &Rows, bound: u32, shut: &mut [Vec<bool>], until: &mut [usize])
     requires board { IsBoard board.now }
+    requires few { length board.now.leaves < 2 ^ 32 }
     requires gates { AreGatesOf board.now (record { until = until.old; shut = rows_in shut.old }) }
-    requires ranked { IsRanked board.now (rows_of levels.now) (rows_of ranks.now) }
+    requires ranks { AreForStays board.now ranks.now }
     ensures shut_each { length shut.new ≡ length shut.old }
     ensures until_each { length until.new ≡ length until.old }
     ensures gates { AreGatesOf board.now (record { until = until.new; shut = rows_in shut.new }) }
-    ensures open { AreOpenUpTo board.now (rows_of levels.now) (rows_of ranks.now) bound
+    ensures open { AreOpenUpTo board.now ranks.now bound
         (record { until = until.old; shut = rows_in shut.old }) (record { until = until.new; shut = rows_in shut.new }) }
 {
-    shut_ranks(board, levels, ranks, bound, shut);
+    shut_ranks(board, ranks, bound, shut);
     find_last(shut, until);
 }
 
-/// Shuts the stays of matched proposers whose ranks are above a bound.
-fn shut_ranks(
-    board: &Board,
-    levels: &[Vec<u32>],
-    ranks: &[Vec<u32>],
-    bound: u32,
-    shut: &mut [Vec<bool>],
-)
+/// Shuts the stays whose ranks are above a bound.
+fn shut_ranks(board: &Board, ranks: &Rows, bound: u32, shut: &mut [Vec<bool>])
     requires board { IsBoard board.now }
-    requires ranked { IsRanked board.now (rows_of levels.now) (rows_of ranks.now) }
+    requires few { length board.now.leaves < 2 ^ 32 }
+    requires ranks { AreForStays board.now ranks.now }
     requires rows { AreRowsFor board.now.levels (rows_in shut.old) }
-    ensures { AreShutAbove board.now (rows_of levels.now) (rows_of ranks.now) bound
-        (length board.now.leaves) (rows_in shut.old) (rows_in shut.new) }
+    ensures { AreShutAbove board.now ranks.now bound (length board.now.leaves) (rows_in shut.old)
+        (rows_in shut.new) }
 {
     for p in 0..board.proposers() {
-        if board.matched()[p] {
-            shut_row_above(
-                &board.all_levels()[p],
-                &levels[p],
-                &ranks[p],
-                bound,
-                &mut shut[p],
-            );
-        }
+        shut_row_above(ranks.at(p as u32), bound, &mut shut[p]);
     }
 }
 
-/// Shuts the stays of a proposer whose ranks are above a bound.
-fn shut_row_above(stays: &[u32], levels: &[u32], ranks: &[u32], bound: u32, shut: &mut [bool])
-    requires one_each { length shut.old ≡ length stays.now }
-    requires rising { NeverFall levels.now }
-    requires few { length ranks.now ≤ length levels.now }
-    requires some { (a : ℕ) → a < length stays.now → place_on levels.now (slice_index stays.now a)
-        < length ranks.now }
+/// Shuts the stays of a proposer whose ranks are above a bound. What has no rank stays as it is.
+fn shut_row_above(ranks: &[u32], bound: u32, shut: &mut [bool])
+    requires { length ranks.now ≤ length shut.old }
     ensures one_each { length shut.new ≡ length shut.old }
-    ensures shut { (a : ℕ) → a < length stays.now → (slice_index_or shut.new a false ≡ false)
-        ↔ (slice_index_or shut.old a false ≡ false)
-        × (rank_of_level levels.now ranks.now (slice_index stays.now a) ≤ bound) }
+    ensures shut { (a : ℕ) → (slice_index_or shut.new a false ≡ false)
+        ↔ (slice_index_or shut.old a false ≡ false) × (slice_index ranks.now a ≤ bound) }
 {
-    for a in 0..stays.len() {
-        if bound < rank_of(levels, ranks, stays[a]) {
-            shut[a] = true;
-        }
+    for a in 0..ranks.len() {
+        let above = bound < ranks[a];
+        let before = shut[a];
+        shut[a] = before || above;
     }
-}
-
-/// The rank of the places of a level that some place has, found by bisection.
-pub(crate) fn rank_of(levels: &[u32], ranks: &[u32], level: u32) -> u32
-    requires rising { NeverFall levels.now }
-    requires few { length ranks.now ≤ length levels.now }
-    requires some { place_on levels.now level < length ranks.now }
-    ensures { result ≡ rank_of_level levels.now ranks.now level }
-{
-    ranks[lower(levels, level)]
 }
 
 /// Finds the last open stay of each proposer.

@@ -15,9 +15,11 @@ ghost use Rattle.sm_least.specs.Regrets.{IsRanked, AreAtStays, rank_now, greates
 ghost use Rattle.sm_board.specs.BoardOf.{IsLeastWithin, IsBestAllowed};
 ghost use Rattle.sm_board.specs.Walks.{IsRaised, IsNotRaised};
 ghost use Rattle.sm_least.specs.Searches.{IsSearch, IsSame, search_of};
+ghost use Rattle.sm_least.specs.StayRanks.{AreStayRanks};
 
-use crate::gates::{Gates, rank_of};
+use crate::gates::Gates;
 use crate::grow::{find, raise};
+use crate::ranks::{StayRanks, along_stays, rank_of};
 use sm_board::{Board, Course, Held, make_board};
 use sm_market::Market;
 use sm_poset::{Conditions, Poset};
@@ -175,14 +177,40 @@ impl Least {
         find(&self.course, &self.gates, &mut self.held)
     }
 
+    /// Ranks with those of the stays. `ranks` has one item for each place of a proposer's list, and places of one level have equal
+    /// ones.
+    ///
+    /// Takes time and memory in proportion to the proposers and the stays, and for some stays the logarithm of their proposers'
+    /// places.
+    ///
+    /// # Errors
+    ///
+    /// `AllocError` where memory ran out, and only then.
+    pub fn stay_ranks<'a>(
+        &self,
+        alloc: Global,
+        ranks: &'a [Vec<u32>],
+    ) -> Result<StayRanks<'a>, AllocError>
+        requires { AreRanks self.now.poset.lists self.now.levels (rows_of ranks.now) }
+        ensures places { IfOk result (λ made. rows_of made.places.now ≡ rows_of ranks.now) }
+        ensures ranks { IfOk result (λ made. AreStayRanks self.now.poset.lists self.now.levels
+            self.now.course.board made) }
+    {
+        let stays = along_stays(alloc, self.course.board(), &self.levels, ranks)?;
+        Ok(StayRanks {
+            places: ranks,
+            stays,
+        })
+    }
+
     /// Looks for the stable matching that is best for every proposer among those that meet the conditions and have a regret of at
     /// most a bound. True where there is one, and its closed set is held then. False exactly where there is none.
     ///
-    /// `ranks` has one item for each place of a proposer's list, and places of one level have equal ones. The regret is the
-    /// greatest of the ranks at which matched proposers stand. The conditions name proposers that there are. Takes no memory, and
-    /// time as [`Least::least`], and for each stay the logarithm of its proposer's places (Gusfield 1987).
-    pub fn least_below(&mut self, conditions: &Conditions, ranks: &[Vec<u32>], bound: u32) -> bool
-        requires ranks { AreRanks self.old.poset.lists self.old.levels (rows_of ranks.now) }
+    /// The regret is the greatest of the ranks at which matched proposers stand. The conditions name proposers that there are.
+    /// Takes no memory, and time as [`Least::least`] (Gusfield 1987).
+    pub fn least_below(&mut self, conditions: &Conditions, ranks: &StayRanks, bound: u32) -> bool
+        requires ranks { AreStayRanks self.old.poset.lists self.old.levels self.old.course.board
+            ranks.now }
         requires forced { AreInRange (length self.old.poset.lists.proposers)
             conditions.now.forced.items }
         requires forbidden { AreInRange (length self.old.poset.lists.proposers)
@@ -190,31 +218,31 @@ impl Least {
         ensures same { IsSame self.old self.new }
         ensures course { self.new.course ≡ self.old.course }
         ensures found { result ≡ true → IsBestBelow self.new.poset.lists self.new.levels
-            (rows_of ranks.now) bound
+            (rows_of ranks.now.places.now) bound
             conditions.now.forced.items conditions.now.forbidden.items
             (matching_of self.new.poset.lists self.new.poset.first.places self.new.poset.rotations
             self.new.held.set) }
         ensures none { result ≡ false → (m : Places) → IsStable self.new.poset.lists m
             → IsAllowed self.new.levels conditions.now.forced.items conditions.now.forbidden.items m
-            → bound < regret_of self.new.poset.lists (rows_of ranks.now) m }
+            → bound < regret_of self.new.poset.lists (rows_of ranks.now.places.now) m }
     {
         let board = self.course.board();
         self.gates.set_unbounded(board, conditions);
-        self.gates.shut_above(board, &self.levels, ranks, bound);
+        self.gates.shut_above(board, &ranks.stays, bound);
         find(&self.course, &self.gates, &mut self.held)
     }
 
     /// The regret of the matching of what is held: the greatest rank at which a matched proposer stands, and 0 where nobody is
     /// matched.
     ///
-    /// `ranks` is as for [`Least::least_below`]. Takes no memory, and for each proposer the logarithm of its places.
-    pub fn greatest(&self, ranks: &[Vec<u32>]) -> u32
-        requires { AreRanks self.now.poset.lists self.now.levels (rows_of ranks.now) }
-        ensures { result ≡ regret_of self.now.poset.lists (rows_of ranks.now)
+    /// Takes no memory, and for each proposer the logarithm of its places.
+    pub fn greatest(&self, ranks: &StayRanks) -> u32
+        requires { AreStayRanks self.now.poset.lists self.now.levels self.now.course.board ranks.now }
+        ensures { result ≡ regret_of self.now.poset.lists (rows_of ranks.now.places.now)
             (matching_of self.now.poset.lists self.now.poset.first.places self.now.poset.rotations
             self.now.held.set) }
     {
-        greatest_rank(self.course.board(), &self.levels, ranks, self.held.levels())
+        greatest_rank(self.course.board(), &self.levels, ranks.places, self.held.levels())
     }
 
     /// Looks for the stable matching that is best for every proposer among those that meet the conditions, and takes an order of

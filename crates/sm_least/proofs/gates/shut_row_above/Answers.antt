@@ -1,20 +1,15 @@
-use Rattle.std.proofs.Common.{ℕ, ◌≤◌, true, slice_index, arith, ◌∙◌}
-use Rattle.std.proofs.lemmas.List.{length-set}
-use Rattle.sm_least.specs.Regrets.{rank_of_level}
-use Rattle.sm_least.proofs.GateLemmas.{row_shut, row_kept}
+use Rattle.std.proofs.Common.{◌≡◌, ℕ, ◌≤◌, inl, inr, arith, sym, ◌∙◌, slice_index, length}
+use Rattle.std.proofs.lemmas.List.{get_or_past}
+use Rattle.sm_lists.proofs.Counting.{lt_or_le}
 use Rattle.sm_least.proofs.gates.shut_row_above.Goals as goal
-use Rattle.sm_least.proofs.gates.shut_row_above.Goals.{then-bound-rank_of, else-bound-rank_of}
 
-pub loop-a-preserved : goal.loop-a-preserved
-loop-a-preserved c =
-    let Passes : ℕ → Type 0 = λ a. rank_of_level c.args.levels.now c.args.ranks.now (slice_index c.args.stays.now a) ≤ c.args.bound in
-    elim c.if-bound-rank_of.branch [
-      | then-bound-rank_of w ↦ rw w.shut-is (record {
-        one_each = length-set c.loop-a.shut c.loop-a.a true ∙ c.loop-a.invariant.one_each;
-        row = row_shut Passes c.loop-a.a (omega (arith, c.loop-a.invariant.one_each, c.requires.one_each)) (λ low. omega (arith, c.rank_of.ensures, w.if-bound-rank_of.true)) c.loop-a.invariant.row;
-      })
-      | else-bound-rank_of w ↦ rw w.shut-is (record {
-        one_each = c.loop-a.invariant.one_each;
-        row = row_kept Passes c.loop-a.a (omega (arith, c.rank_of.ensures, w.if-bound-rank_of.false)) c.loop-a.invariant.row;
-      })
+pub returns-clause-shut : goal.returns-clause-shut
+returns-clause-shut c = λ a.
+    let all : c.loop-a.a ≡ length c.args.ranks.now = omega (arith, c.loop-a-test.false, c.loop-a.auto.a-end) in
+    elim (lt_or_le a (length c.args.ranks.now)) [
+      | inl less ↦ c.loop-a.invariant.cut a (omega arith)
+      | inr past ↦
+          let is = c.loop-a.invariant.left a (omega arith) in
+          let none : slice_index c.args.ranks.now a ≡ 0 = get_or_past c.args.ranks.now a 0 past in
+          ((λ x. (sym is ∙ x, omega (arith, none))), (λ x. is ∙ x.0))
     ]

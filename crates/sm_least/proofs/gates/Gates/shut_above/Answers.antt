@@ -1,6 +1,5 @@
 use Rattle.std.proofs.Common.{◌≡◌, sym, ◌∙◌, subst}
 use Rattle.std.specs.Vec.{with_items, vec_len}
-use Rattle.sm_market.specs.Vectors.{rows_of}
 use Rattle.sm_lists.proofs.ResultLemmas.{take-append_at_length}
 use Rattle.sm_board.specs.Board.{Gates}
 use Rattle.sm_least.specs.Steps.{rows_in}
@@ -17,5 +16,5 @@ returns-clause-open c =
     (λ i. record { until = sym until i; shut = rows_in (sym shut i) }) in
     let old : ◌≡◌ {A = Gates} (record { until = c.deref_mut-2.result.now; shut = rows_in c.deref_mut.result.now }) (record { until = c.self.inside.until.items; shut = rows_in c.self.inside.shut.items }) =
     (λ i. record { until = c.deref_mut-2.ensures.value i; shut = rows_in (c.deref_mut.ensures.value i) }) in
-    subst (λ (g : Gates). AreOpenUpTo c.args.board.now (rows_of c.args.levels.now) (rows_of c.args.ranks.now) c.args.bound c.args.self.now g) new
-    (subst (λ (g : Gates). AreOpenUpTo c.args.board.now (rows_of c.args.levels.now) (rows_of c.args.ranks.now) c.args.bound g (record { until = c.cut.new.until; shut = rows_in c.cut.new.shut })) (old ∙ c.self.view_is) c.cut.ensures.open)
+    subst (λ (g : Gates). AreOpenUpTo c.args.board.now c.args.ranks.now c.args.bound c.args.self.now g) new
+    (subst (λ (g : Gates). AreOpenUpTo c.args.board.now c.args.ranks.now c.args.bound g (record { until = c.cut.new.until; shut = rows_in c.cut.new.shut })) (old ∙ c.self.view_is) c.cut.ensures.open)
