@@ -242,7 +242,12 @@ impl Least {
             (matching_of self.now.poset.lists self.now.poset.first.places self.now.poset.rotations
             self.now.held.set) }
     {
-        greatest_rank(self.course.board(), &self.levels, ranks.places, self.held.levels())
+        greatest_rank(
+            self.course.board(),
+            &self.levels,
+            ranks.places,
+            self.held.levels(),
+        )
     }
 
     /// Looks for the stable matching that is best for every proposer among those that meet the conditions, and takes an order of
