@@ -1,4 +1,4 @@
-use Rattle.std.proofs.Common.{◌≡◌, ℕ, ◌≤◌, inl, inr, arith, sym, ◌∙◌, slice_index, length}
+use Rattle.std.proofs.Common.{◌≡◌, inl, inr, arith, sym, ◌∙◌, slice_index, length}
 use Rattle.std.proofs.lemmas.List.{get_or_past}
 use Rattle.sm_lists.proofs.Counting.{lt_or_le}
 use Rattle.sm_least.proofs.gates.shut_row_above.Goals as goal

@@ -1,7 +1,6 @@
-use Rattle.std.proofs.Common.{◌≡◌, sym, ap, subst, ◌∙◌}
+use Rattle.std.proofs.Common.{sym, ap, subst, ◌∙◌}
 use Rattle.sm_market.specs.Vectors.{rows_of}
 use Rattle.sm_theory.specs.Regrets.{AreRanks}
-use Rattle.sm_board.specs.Board.{Board}
 use Rattle.sm_least.specs.Regrets.{ranks_along}
 use Rattle.sm_least.specs.Searches.{Search}
 use Rattle.sm_least.proofs.BelowLemmas.{ranked_for}
@@ -14,7 +13,7 @@ along_stays-requires-clause-ranked c =
 
 pub returns-clause-ranks : goal.returns-clause-ranks
 returns-clause-ranks c =
-    let stays = rw (c.board.ensures.board, c.deref.ensures.value) at c.in_ok-along_stays.ensures in
+    let stays = rw (c.board.ensures.board, c.deref.ensures.value) at c.in_ok-stays.ensures in
     record {
       places = c.requires;
       stays = stays ∙ ap (λ (s : Search). ranks_along s.course.board s.levels (rows_of c.args.ranks.now)) c.self.view_is;
