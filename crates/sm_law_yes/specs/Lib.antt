@@ -1,0 +1,5 @@
+pub mod Reordered
+pub mod YesIsRight
+pub mod Correspond
+pub mod OrderIsFree
+pub mod Witnesses

@@ -1,0 +1,78 @@
+//! An answer that gets a yes is a right one, but for the order of its free lines. The contract of each function is the law, a
+//! statement over the definitions alone. A function calls the law on the meaning of a yes from which its own law follows, if there
+//! is one, and does nothing else.
+
+ghost use Rattle.sm_law_yes.specs.Reordered.{ReorderedIsPermuted};
+ghost use Rattle.sm_law_yes.specs.YesIsRight.{SolveIsRight, ReducedIsRight, RotationsAreRight, MeetIsRight, JoinIsRight, CouplesAreRight, PartiesAreRight};
+ghost use Rattle.sm_law_yes.specs.Correspond.{RotationsCorrespond};
+ghost use Rattle.sm_law_yes.specs.OrderIsFree.{OrderIsFree};
+
+use sm_cert::laws;
+
+/// Reordered lines are the same ones, and those of each keyword stand where they stood.
+pub fn reordered_is_permuted()
+    ensures { ReorderedIsPermuted }
+{}
+
+/// An answer of `solve` over an instance with two sides that gets a yes is a right one, but for the order of its pairs.
+pub fn solve_is_right()
+    ensures { SolveIsRight }
+{
+    laws::solve_yes();
+}
+
+/// An answer of `reduced` that gets a yes is a right one, but for the order of its seats and of its lists.
+pub fn reduced_is_right()
+    ensures { ReducedIsRight }
+{
+    laws::reduced_yes();
+}
+
+/// An answer of `rotations` that gets a yes is a right one, but for the order of its first seats.
+pub fn rotations_are_right()
+    ensures { RotationsAreRight }
+{
+    laws::rotations_yes();
+}
+
+/// In an answer of `rotations` that gets a yes the closed sets of what its lines show and the stable matchings of the instance
+/// correspond one to one.
+pub fn rotations_correspond()
+    ensures { RotationsCorrespond }
+{
+    laws::rotations_yes();
+}
+
+/// An answer of `meet` that gets a yes is a right one over the two matchings that it says, but for the order of its pairs.
+pub fn meet_is_right()
+    ensures { MeetIsRight }
+{
+    laws::meet_yes();
+}
+
+/// An answer of `join` that gets a yes is a right one over the two matchings that it says, but for the order of its pairs.
+pub fn join_is_right()
+    ensures { JoinIsRight }
+{
+    laws::join_yes();
+}
+
+/// An answer of `solve` over roommates that gets a yes and writes a matching is a right one, but for the order of its couples.
+pub fn couples_are_right()
+    ensures { CouplesAreRight }
+{
+    laws::couples_yes();
+}
+
+/// An answer of `solve` over roommates that gets a yes and says that there is no stable matching is a right one, but for the order
+/// of its parties.
+pub fn parties_are_right()
+    ensures { PartiesAreRight }
+{
+    laws::none_yes();
+}
+
+/// An answer over an instance with two sides that gets a yes gets it in any order of its free lines.
+pub fn order_is_free()
+    ensures { OrderIsFree }
+{}
