@@ -18,3 +18,4 @@ pub mod WeightOrder
 pub mod FreeForm
 pub mod OrderFree
 pub mod PermutedLines
+pub mod ExactlyRight

@@ -1,5 +1,6 @@
 pub mod Reordered
 pub mod YesIsRight
+pub mod Exactly
 pub mod Correspond
 pub mod OrderIsFree
 pub mod Witnesses

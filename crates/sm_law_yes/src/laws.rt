@@ -4,10 +4,12 @@
 
 ghost use Rattle.sm_law_yes.specs.Reordered.{ReorderedIsPermuted};
 ghost use Rattle.sm_law_yes.specs.YesIsRight.{SolveIsRight, ReducedIsRight, RotationsAreRight, MeetIsRight, JoinIsRight, CouplesAreRight, PartiesAreRight};
+ghost use Rattle.sm_law_yes.specs.Exactly.{SolveExactly, ReducedExactly, RotationsExactly, MeetExactly, JoinExactly};
 ghost use Rattle.sm_law_yes.specs.Correspond.{RotationsCorrespond};
 ghost use Rattle.sm_law_yes.specs.OrderIsFree.{OrderIsFree};
 
 use sm_cert::laws;
+use sm_law_agree::laws as agree;
 
 /// Reordered lines are the same ones, and those of each keyword stand where they stood.
 pub fn reordered_is_permuted()
@@ -76,3 +78,46 @@ pub fn parties_are_right()
 pub fn order_is_free()
     ensures { OrderIsFree }
 {}
+
+/// Over an instance with two sides the answers of `solve` that get a yes are exactly the right ones, but for the order of the pairs.
+pub fn solve_exactly()
+    ensures { SolveExactly }
+{
+    laws::solve_yes();
+    agree::solve_agrees();
+}
+
+/// The answers of `reduced` that get a yes are exactly the right ones, but for the order of the seats and of the lists.
+pub fn reduced_exactly()
+    ensures { ReducedExactly }
+{
+    laws::reduced_yes();
+    agree::reduced_agrees();
+}
+
+/// The answers of `rotations` that get a yes are exactly the right ones, but for the order of the first seats, where the lists of
+/// the seats have no more entries than `check` takes.
+pub fn rotations_exactly()
+    ensures { RotationsExactly }
+{
+    laws::rotations_yes();
+    agree::rotations_agree();
+}
+
+/// The answers of `meet` that get a yes are exactly the right ones over the two matchings that they say, but for the order of the
+/// pairs.
+pub fn meet_exactly()
+    ensures { MeetExactly }
+{
+    laws::meet_yes();
+    agree::meet_agrees();
+}
+
+/// The answers of `join` that get a yes are exactly the right ones over the two matchings that they say, but for the order of the
+/// pairs.
+pub fn join_exactly()
+    ensures { JoinExactly }
+{
+    laws::join_yes();
+    agree::join_agrees();
+}
