@@ -226,7 +226,7 @@ right_there w _ own f x e = absurd (nothing e)
 are_pairs : (w : Written) (pairs : List (ℕ × ℕ)) → ((x : ℕ × ℕ) → Contains pairs x → ArePair (Two w) x.0 x.1) → ArePairs (Two w) pairs
 are_pairs w pairs each = All-from_get_or (λ (pair : ℕ × ℕ). ArePair (Two w) pair.0 pair.1) pairs (0, 0) (λ k less. each (pair_at pairs k) (pair_there pairs k less))
 
-module _ (choice : Choice) (w : Written) (rest : List LineData) (i : IsInstance w) (placed : is_whole (given_layout ∷ []) (map opening_of rest) ≡ true) (own : AreOwn w rest)
+module _ (choice : Choice) (w : Written) (rest : List LineData) (i : IsInstance w) (placed : is_whole (given_layout ∷ []) (map opening_of rest) ≡ true) (own : AreOwn (Two w) rest)
     (c : IsChosen choice w (lefts_in rest) (rights_in rest) (pairs_in rest)) where
   abbrev m : List (Option ℕ)
   m = places_in w (lefts_in rest)
@@ -300,11 +300,11 @@ module _ (choice : Choice) (w : Written) (rest : List LineData) (i : IsInstance 
 -- the law of `meet`
 pub meet_is_right : MeetYes → MeetIsRight
 meet_is_right meaning w lines i g =
-    by_head (λ (ls : List LineData). AreOwn w ls → IsChosen Better w (lefts_in ls) (rights_in ls) (pairs_in ls) → IsRightButForOrder (IsChosenAnswer Better (said_texts w ls) w) ls) g
+    by_head (λ (ls : List LineData). AreOwn (Two w) ls → IsChosen Better w (lefts_in ls) (rights_in ls) (pairs_in ls) → IsRightButForOrder (IsChosenAnswer Better (said_texts w ls) w) ls) g
     (λ rest placed _ own c. behind_head Better w rest i placed own.2 c) (are_own g) (meaning w lines g)
 
 -- the law of `join`
 pub join_is_right : JoinYes → JoinIsRight
 join_is_right meaning w lines i g =
-    by_head (λ (ls : List LineData). AreOwn w ls → IsChosen Worse w (lefts_in ls) (rights_in ls) (pairs_in ls) → IsRightButForOrder (IsChosenAnswer Worse (said_texts w ls) w) ls) g
+    by_head (λ (ls : List LineData). AreOwn (Two w) ls → IsChosen Worse w (lefts_in ls) (rights_in ls) (pairs_in ls) → IsRightButForOrder (IsChosenAnswer Worse (said_texts w ls) w) ls) g
     (λ rest placed _ own c. behind_head Worse w rest i placed own.2 c) (are_own g) (meaning w lines g)

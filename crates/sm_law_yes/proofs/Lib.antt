@@ -15,6 +15,7 @@ pub mod SaidOrder
 pub mod PairOrder
 pub mod SeatOrder
 pub mod WeightOrder
+pub mod RoomOrder
 pub mod FreeForm
 pub mod OrderFree
 pub mod PermutedLines

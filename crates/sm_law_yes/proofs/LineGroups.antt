@@ -5,6 +5,7 @@ use Rattle.std.specs.List.{All, cons_option, list_all, list_any}
 use Rattle.std.proofs.lemmas.Bool.{false≢true}
 use Rattle.std.proofs.lemmas.List.Elements.{All-head, All-tail, filter_map-append}
 use Rattle.sm_instance.specs.Written.{Written}
+use Rattle.sm_instance.specs.declared.inputs.Input.{Input}
 use Rattle.sm_instance.specs.declared.inputs.Input.TheVariants.{Two}
 use Rattle.sm_report.specs.Heads.{HeadData}
 use Rattle.sm_report.specs.Lines.{LineData}
@@ -58,31 +59,31 @@ closes (x ∷ xs) e = absurd (none_left xs e)
 -- Lines of an instance.
 
 -- each of some lines is of its instance, and of its form
-abbrev pub AreOwn : Written → List LineData → Type 0
-AreOwn w [] = Unit {0}
-AreOwn w (x ∷ xs) = IsLineOf (Two w) x × (fits (Two w) x ≡ true) × AreOwn w xs
+abbrev pub AreOwn : Input → List LineData → Type 0
+AreOwn input [] = Unit {0}
+AreOwn input (x ∷ xs) = IsLineOf input x × (fits input x ≡ true) × AreOwn input xs
 
-own_lines : (w : Written) (lines : List LineData) → All (IsLineOf (Two w)) lines → list_all (fits (Two w)) lines ≡ true → AreOwn w lines
-own_lines w [] right fitting = tt
-own_lines w (x ∷ xs) right fitting = (
-  All-head (IsLineOf (Two w)) x xs right,
-  and_left (fits (Two w) x) (list_all (fits (Two w)) xs) fitting,
-  own_lines w xs (All-tail (IsLineOf (Two w)) x xs right) (and_right (fits (Two w) x) (list_all (fits (Two w)) xs) fitting),
+own_lines : (input : Input) (lines : List LineData) → All (IsLineOf input) lines → list_all (fits input) lines ≡ true → AreOwn input lines
+own_lines input [] right fitting = tt
+own_lines input (x ∷ xs) right fitting = (
+  All-head (IsLineOf input) x xs right,
+  and_left (fits input x) (list_all (fits input) xs) fitting,
+  own_lines input xs (All-tail (IsLineOf input) x xs right) (and_right (fits input x) (list_all (fits input) xs) fitting),
 )
 
 -- those of an answer that gets a yes
-pub are_own : {w : Written} {head : HeadData} {lines : List LineData} → GetsYes (Two w) head lines → AreOwn w lines
-are_own {w} {head} {lines} g = own_lines w lines g.answer.right g.answer.fitting
+pub are_own : {input : Input} {head : HeadData} {lines : List LineData} → GetsYes input head lines → AreOwn input lines
+are_own {input} {head} {lines} g = own_lines input lines g.answer.right g.answer.fitting
 
 -- the first of two parts
-pub own_front : (w : Written) (xs ys : List LineData) → AreOwn w (xs ++ ys) → AreOwn w xs
-own_front w [] ys h = tt
-own_front w (x ∷ xs) ys h = (h.0, h.1, own_front w xs ys h.2)
+pub own_front : (input : Input) (xs ys : List LineData) → AreOwn input (xs ++ ys) → AreOwn input xs
+own_front input [] ys h = tt
+own_front input (x ∷ xs) ys h = (h.0, h.1, own_front input xs ys h.2)
 
 -- the second of two parts
-pub own_back : (w : Written) (xs ys : List LineData) → AreOwn w (xs ++ ys) → AreOwn w ys
-own_back w [] ys h = h
-own_back w (x ∷ xs) ys h = own_back w xs ys h.2
+pub own_back : (input : Input) (xs ys : List LineData) → AreOwn input (xs ++ ys) → AreOwn input ys
+own_back input [] ys h = h
+own_back input (x ∷ xs) ys h = own_back input xs ys h.2
 
 -- What the lines of a group say.
 
@@ -95,7 +96,7 @@ pub record IsLineFor {X : Type 0} (line : X → LineData) (said : LineData → O
 module _ {X : Type 0} (said : LineData → Option X) where
   -- a group whose lines are of this instance is the lines of what it says
   pub lines_said : (w : Written) (word : Keyword) (line : X → LineData) → ((y : LineData) → IsLineOf (Two w) y → fits (Two w) y ≡ true → begins (opening_of y) word ≡ true → IsLineFor line said y)
-      → (lines : List LineData) → AreOwn w lines → HaveWord word lines → lines ≡ map line (filter_map said lines)
+      → (lines : List LineData) → AreOwn (Two w) lines → HaveWord word lines → lines ≡ map line (filter_map said lines)
   lines_said w word line read [] own h = refl
   lines_said w word line read (y ∷ ys) own h =
       let r = read y own.0 own.1 h.0 in
@@ -103,7 +104,7 @@ module _ {X : Type 0} (said : LineData → Option X) where
       ∙ ap (λ (o : Option X). map line (cons_option o (filter_map said ys))) (sym r.says)
 
   -- what a line of the instance says has a property
-  pub all_said : (w : Written) (P : X → Type 0) → ((y : LineData) → IsLineOf (Two w) y → fits (Two w) y ≡ true → (x : X) → said y ≡ Some x → P x) → (lines : List LineData) → AreOwn w lines
+  pub all_said : (w : Written) (P : X → Type 0) → ((y : LineData) → IsLineOf (Two w) y → fits (Two w) y ≡ true → (x : X) → said y ≡ Some x → P x) → (lines : List LineData) → AreOwn (Two w) lines
       → (x : X) → Contains (filter_map said lines) x → P x
   all_said w P each [] own x c = absurd (let l = c.1 in omega (arith, l))
   all_said w P each (y ∷ ys) own x c = go (said y) refl c (λ d. all_said w P each ys own.2 x d)

@@ -1,7 +1,8 @@
--- The order of free lines says nothing in an answer over two sides.
+-- The order of free lines says nothing.
 use Rattle.std.proofs.Common.{◌≡◌, ℕ, refl, sym, ap, ◌∙◌, true, List, [], ◌∷◌, ◌++◌, length, Option, Some, None, subst}
 use Rattle.std.proofs.lemmas.Bool.{false≢true}
 use Rattle.sm_instance.specs.Written.{Written}
+use Rattle.sm_instance.specs.declared.inputs.Input.TheVariants.{Two, Room}
 use Rattle.sm_theory.specs.Listings.{end_of}
 use Rattle.sm_theory.specs.declared.choice.Choice.TheVariants.{Better, Worse}
 use Rattle.sm_report.specs.Heads.{HeadData}
@@ -11,13 +12,15 @@ use Rattle.sm_check_clauses.specs.declared.verdicts.Reason.{Reason}
 use Rattle.sm_check_clauses.specs.Said.{vector_in, vectors_in}
 use Rattle.sm_check_clauses.specs.Vectors.{ListHolds, ListClauses}
 use Rattle.sm_check_clauses.specs.Judging.{answer, Clauses}
-use Rattle.sm_law_yes.specs.Reordered.{is_free}
+use Rattle.sm_law_yes.specs.Reordered.{is_free, IsReordered}
 use Rattle.sm_law_yes.specs.OrderIsFree.{OrderIsFree}
-use Rattle.sm_law_yes.proofs.FreeForm.{yes_reordered}
+use Rattle.sm_law_yes.proofs.FreeForm.{two_reordered, room_reordered}
 use Rattle.sm_law_yes.proofs.Exchanges.{SeesNoOrder}
 use Rattle.sm_law_yes.proofs.SaidOrder.{unsaid, unsaid_more}
 use Rattle.sm_law_yes.proofs.PairOrder.{solve_order, regret_order, chosen_order}
 use Rattle.sm_law_yes.proofs.SeatOrder.{rotations_order, reduced_order}
+use Rattle.sm_cert.specs.Yes.{GetsYes}
+use Rattle.sm_law_yes.proofs.RoomOrder.{couples_order, parties_order}
 use Rattle.sm_law_yes.proofs.WeightOrder.{weight_order}
 
 -- Answers that can't be checked have no clauses.
@@ -51,20 +54,24 @@ module _ (w : Written) (after : Option (List ℕ)) (limit : ℕ) where
         record { first = list_at above y g; second = list_at (above ++ y ∷ []) x f; alike = unsaid vector_in above x y (no_vector x f) (no_vector y g) };
   }
 
+two_is_free : (w : Written) (head : HeadData) (lines others : List LineData) → GetsYes (Two w) head lines → IsReordered lines others → GetsYes (Two w) head others
+two_is_free w (HeadData.Solve (Some side)) lines others g r = two_reordered (solve_order w side) lines others g r
+two_is_free w HeadData.Reduced lines others g r = two_reordered (reduced_order w) lines others g r
+two_is_free w HeadData.Rotations lines others g r = two_reordered (rotations_order w) lines others g r
+two_is_free w (HeadData.List after limit) lines others g r = two_reordered (list_order w after limit) lines others g r
+two_is_free w HeadData.Regret lines others g r = two_reordered (regret_order w) lines others g r
+two_is_free w (HeadData.Weight by) lines others g r = two_reordered (weight_order w by) lines others g r
+two_is_free w HeadData.Meet lines others g r = two_reordered (chosen_order Better w) lines others g r
+two_is_free w HeadData.Join lines others g r = two_reordered (chosen_order Worse w) lines others g r
+two_is_free w (HeadData.Solve None) lines others g r = two_reordered (all_true (Clauses (answer w (HeadData.Solve None))) (λ above x why. tt)) lines others g r
+two_is_free w HeadData.Pairs lines others g r = two_reordered (all_true (Clauses (answer w HeadData.Pairs)) (λ above x why. tt)) lines others g r
+two_is_free w (HeadData.Survey limit) lines others g r = two_reordered (all_true (Clauses (answer w (HeadData.Survey limit))) (λ above x why. tt)) lines others g r
+two_is_free w HeadData.Check lines others g r = two_reordered (all_true (Clauses (answer w HeadData.Check)) (λ above x why. tt)) lines others g r
+two_is_free w HeadData.Median lines others g r = two_reordered (all_true (Clauses (answer w HeadData.Median)) (λ above x why. tt)) lines others g r
+two_is_free w HeadData.Route lines others g r = two_reordered (all_true (Clauses (answer w HeadData.Route)) (λ above x why. tt)) lines others g r
+two_is_free w HeadData.Rest lines others g r = two_reordered (all_true (Clauses (answer w HeadData.Rest)) (λ above x why. tt)) lines others g r
+
 -- the law
 pub order_is_free : OrderIsFree
-order_is_free w (HeadData.Solve (Some side)) lines others g r = yes_reordered (solve_order w side) lines others g r
-order_is_free w HeadData.Reduced lines others g r = yes_reordered (reduced_order w) lines others g r
-order_is_free w HeadData.Rotations lines others g r = yes_reordered (rotations_order w) lines others g r
-order_is_free w (HeadData.List after limit) lines others g r = yes_reordered (list_order w after limit) lines others g r
-order_is_free w HeadData.Regret lines others g r = yes_reordered (regret_order w) lines others g r
-order_is_free w (HeadData.Weight by) lines others g r = yes_reordered (weight_order w by) lines others g r
-order_is_free w HeadData.Meet lines others g r = yes_reordered (chosen_order Better w) lines others g r
-order_is_free w HeadData.Join lines others g r = yes_reordered (chosen_order Worse w) lines others g r
-order_is_free w (HeadData.Solve None) lines others g r = yes_reordered (all_true (Clauses (answer w (HeadData.Solve None))) (λ above x why. tt)) lines others g r
-order_is_free w HeadData.Pairs lines others g r = yes_reordered (all_true (Clauses (answer w HeadData.Pairs)) (λ above x why. tt)) lines others g r
-order_is_free w (HeadData.Survey limit) lines others g r = yes_reordered (all_true (Clauses (answer w (HeadData.Survey limit))) (λ above x why. tt)) lines others g r
-order_is_free w HeadData.Check lines others g r = yes_reordered (all_true (Clauses (answer w HeadData.Check)) (λ above x why. tt)) lines others g r
-order_is_free w HeadData.Median lines others g r = yes_reordered (all_true (Clauses (answer w HeadData.Median)) (λ above x why. tt)) lines others g r
-order_is_free w HeadData.Route lines others g r = yes_reordered (all_true (Clauses (answer w HeadData.Route)) (λ above x why. tt)) lines others g r
-order_is_free w HeadData.Rest lines others g r = yes_reordered (all_true (Clauses (answer w HeadData.Rest)) (λ above x why. tt)) lines others g r
+order_is_free (Two w) head lines others g r = two_is_free w head lines others g r
+order_is_free (Room persons) head lines others g r = room_reordered (couples_order persons) (parties_order persons) lines others g r

@@ -20,7 +20,7 @@ use Rattle.sm_report.specs.Sound.{IsLineOf, IsOnLeft}
 use Rattle.sm_report.specs.declared.keywords.Keyword.TheVariants as keyword
 use Rattle.sm_answer.specs.Lines.{line_or_none, lines_from}
 use Rattle.sm_answer.proofs.AnswerLemmas.{lines_from-same}
-use Rattle.sm_answer_roommates.specs.Parties.{IsParty, AreParties}
+use Rattle.sm_answer_roommates.specs.Parties.{IsParty, IsInSomeParty, AreParties}
 use Rattle.sm_answer_roommates.specs.RoomAnswer.{party_line, party_lines, IsUnmatchable}
 use Rattle.sm_check_forms.specs.Layouts.{is_whole}
 use Rattle.sm_check_forms.specs.Forms.{closing, solve_layout, parties_layout, opening_of, fits, begins_with_lowest}
@@ -144,12 +144,14 @@ record HasPerson (parties : List (List ℕ)) (x : ℕ) : Type 0 where
   on : place < length party
   is : slice_index party place ≡ x
 
-record IsPlaced (xs : List ℕ) (x : ℕ) : Type 0 where
-  place : ℕ
-  on : place < length xs
-  is : slice_index xs place ≡ x
+-- an item of a list is at a place
+pub record IsPlaced (xs : List ℕ) (x : ℕ) : Type 0 where
+  pub place : ℕ
+  pub on : place < length xs
+  pub is : slice_index xs place ≡ x
 
-placed_at : (xs : List ℕ) (x : ℕ) → 1 ≤ times x xs → IsPlaced xs x
+-- what is counted is at a place
+pub placed_at : (xs : List ℕ) (x : ℕ) → 1 ≤ times x xs → IsPlaced xs x
 placed_at [] x some = absurd (omega (arith, some))
 placed_at (y ∷ ys) x some = elim (cases_eq y x) [
   | inl same ↦ record { place = 0; on = omega arith; is = same }
@@ -302,6 +304,17 @@ module _ (persons : List AgentData) (parties : List (List ℕ)) (x : AreExcludin
             x.along party c (length party - 1) (omega (arith, some)) ∙ ap (λ t. slice_index party (cond t 0 (length party - 1 + 1))) (eq-eqb (length party - 1 + 1) (length party) (omega (arith, some)));
       }
 
+  -- a person at a place of a party
+  in_party : (z : ℕ) (party : List ℕ) (place : ℕ) → place < length party → slice_index party place ≡ z → Contains sorted party → IsInSomeParty sorted z
+  in_party z party place on is c =
+      let same : row sorted c.0 ≡ party = get_or_default sorted c.0 [] party c.1 ∙ c.2 in
+      record {
+        party = c.0;
+        at = place;
+        on_list = (let e = ap (λ (p : List ℕ). length p) same in omega (arith, on, e));
+        is = ap (λ (p : List ℕ). slice_index p place) same ∙ is;
+      }
+
   are_parties : AreParties x.next sorted
   are_parties = record {
     each = λ k inside. is_party (row sorted k) (in_sorted k inside);
@@ -314,14 +327,7 @@ module _ (persons : List AgentData) (parties : List (List ℕ)) (x : AreExcludin
         let d = has_person parties z (omega (arith, one)) in
         let some = (let o = own d.party d.there in some_member d.party o.lowest) in
         let first = member_there d.party d.there 0 some in
-        let c = into_those (party_at parties) 0 n (head d.party) d.party (omega arith) (omega (arith, first)) (party_own parties numbered d.party d.there) in
-        let same : row sorted c.0 ≡ d.party = get_or_default sorted c.0 [] d.party c.1 ∙ c.2 in
-        record {
-          party = c.0;
-          at = d.place;
-          on_list = (let on = d.on in let e = ap (λ (p : List ℕ). length p) same in omega (arith, on, e));
-          is = ap (λ (p : List ℕ). slice_index p d.place) same ∙ d.is;
-        };
+        in_party z d.party d.place d.on d.is (into_those (party_at parties) 0 n (head d.party) d.party (omega arith) (omega (arith, first)) (party_own parties numbered d.party d.there));
   }
 
   -- the odd party

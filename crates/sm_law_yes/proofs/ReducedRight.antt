@@ -172,7 +172,7 @@ module _ (w : Written) where
   not_reviewer word other (LineData.ReviewerList seat proposers) e = absurd (false≢true (sym other ∙ e))
   not_reviewer word other _ e = refl
 
-behind_head : (w : Written) (rest : List LineData) → IsInstance w → is_whole (reduced_layout ∷ []) (map opening_of rest) ≡ true → AreOwn w rest → IsReduced w (LineData.Answer HeadData.Reduced ∷ rest)
+behind_head : (w : Written) (rest : List LineData) → IsInstance w → is_whole (reduced_layout ∷ []) (map opening_of rest) ≡ true → AreOwn (Two w) rest → IsReduced w (LineData.Answer HeadData.Reduced ∷ rest)
     → IsRightButForOrder (IsReduction w) (LineData.Answer HeadData.Reduced ∷ rest)
 behind_head w rest i placed own r =
     let l = seat_market w in
@@ -184,10 +184,10 @@ behind_head w rest i placed own r =
     let c = grouped keyword.Proposer (Many keyword.Reviewer ∷ closing) b.rest b.whole in
     let d = grouped keyword.Reviewer closing c.rest c.whole in
     let ends = closes d.rest d.whole in
-    let own_a = subst (AreOwn w) a.is own in
-    let own_b = subst (AreOwn w) b.is (own_back w a.group a.rest own_a) in
-    let own_c = subst (AreOwn w) c.is (own_back w b.group b.rest own_b) in
-    let own_d = subst (AreOwn w) d.is (own_back w c.group c.rest own_c) in
+    let own_a = subst (AreOwn (Two w)) a.is own in
+    let own_b = subst (AreOwn (Two w)) b.is (own_back (Two w) a.group a.rest own_a) in
+    let own_c = subst (AreOwn (Two w)) c.is (own_back (Two w) b.group b.rest own_b) in
+    let own_d = subst (AreOwn (Two w)) d.is (own_back (Two w) c.group c.rest own_c) in
     let firsts : firsts_in w rest ≡ firsts_in w a.group =
     ended (first_in w) a (passed (first_in w) b (not_first w keyword.Last refl) ∙ passed (first_in w) c (not_first w keyword.Proposer refl) ∙ passed (first_in w) d (not_first w keyword.Reviewer refl) ∙ ap (firsts_in w) ends) in
     let lasts : lasts_in w rest ≡ lasts_in w b.group =
@@ -200,13 +200,13 @@ behind_head w rest i placed own r =
     passed (reviewer_list_in w) a (not_reviewer w keyword.First refl) ∙ passed (reviewer_list_in w) b (not_reviewer w keyword.Last refl) ∙ passed (reviewer_list_in w) c (not_reviewer w keyword.Proposer refl)
     ∙ ended (reviewer_list_in w) d (ap (reviewer_lists_in w) ends) in
     let read_a : a.group ≡ map (seat_data w Proposers) (firsts_in w rest) =
-    lines_said (first_in w) w keyword.First (seat_data w Proposers) (λ y _ f e. read_first w y f e) a.group (own_front w a.group a.rest own_a) a.words ∙ ap (map (seat_data w Proposers)) (sym firsts) in
+    lines_said (first_in w) w keyword.First (seat_data w Proposers) (λ y _ f e. read_first w y f e) a.group (own_front (Two w) a.group a.rest own_a) a.words ∙ ap (map (seat_data w Proposers)) (sym firsts) in
     let read_b : b.group ≡ map (seat_data w Reviewers) (lasts_in w rest) =
-    lines_said (last_in w) w keyword.Last (seat_data w Reviewers) (λ y _ f e. read_last w y f e) b.group (own_front w b.group b.rest own_b) b.words ∙ ap (map (seat_data w Reviewers)) (sym lasts) in
+    lines_said (last_in w) w keyword.Last (seat_data w Reviewers) (λ y _ f e. read_last w y f e) b.group (own_front (Two w) b.group b.rest own_b) b.words ∙ ap (map (seat_data w Reviewers)) (sym lasts) in
     let read_c : c.group ≡ map (proposer_data w) (proposer_lists_in w rest) =
-    lines_said (proposer_list_in w) w keyword.Proposer (proposer_data w) (λ y _ f e. read_proposer w y f e) c.group (own_front w c.group c.rest own_c) c.words ∙ ap (map (proposer_data w)) (sym proposers) in
+    lines_said (proposer_list_in w) w keyword.Proposer (proposer_data w) (λ y _ f e. read_proposer w y f e) c.group (own_front (Two w) c.group c.rest own_c) c.words ∙ ap (map (proposer_data w)) (sym proposers) in
     let read_d : d.group ≡ map (reviewer_data w) (reviewer_lists_in w rest) =
-    lines_said (reviewer_list_in w) w keyword.Reviewer (reviewer_data w) (λ y _ f e. read_reviewer w y f e) d.group (own_front w d.group d.rest own_d) d.words ∙ ap (map (reviewer_data w)) (sym reviewers) in
+    lines_said (reviewer_list_in w) w keyword.Reviewer (reviewer_data w) (λ y _ f e. read_reviewer w y f e) d.group (own_front (Two w) d.group d.rest own_d) d.words ∙ ap (map (reviewer_data w)) (sym reviewers) in
     let long : length reduced.proposers ≡ length l.proposers = length-map-range_with_len (reduced_row l.proposers l.reviewers r.last.proposers r.first.reviewers) 0 (length l.proposers) in
     let long' : length reduced.reviewers ≡ length l.reviewers = length-map-range_with_len (reduced_row l.reviewers l.proposers r.first.reviewers r.last.proposers) 0 (length l.reviewers) in
     let order_a = subst (λ (ls : List LineData). IsReordered ls (lines_from (seat_line Proposers s r.first) 0 (length l.proposers))) (sym read_a)
@@ -237,5 +237,5 @@ behind_head w rest i placed own r =
 -- the law of `reduced`
 pub reduced_is_right : ReducedYes → ReducedIsRight
 reduced_is_right meaning w lines i g =
-    by_head (λ (ls : List LineData). AreOwn w ls → IsReduced w ls → IsRightButForOrder (IsReduction w) ls) g
+    by_head (λ (ls : List LineData). AreOwn (Two w) ls → IsReduced w ls → IsRightButForOrder (IsReduction w) ls) g
     (λ rest placed _ own r. behind_head w rest i placed own.2 r) (are_own g) (meaning w lines g)

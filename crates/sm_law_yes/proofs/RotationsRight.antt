@@ -7,6 +7,7 @@ use Rattle.std.proofs.lemmas.Bool.{false≢true, eqb-true}
 use Rattle.std.proofs.lemmas.List.{get_or-map, length-map}
 use Rattle.sm_instance.specs.Written.{Written}
 use Rattle.sm_instance.specs.Sound.{IsInstance}
+use Rattle.sm_instance.specs.declared.inputs.Input.TheVariants.{Two}
 use Rattle.sm_instance.specs.declared.kinds.Side.TheVariants.{Proposers}
 use Rattle.sm_market.specs.Lists.{row, entry, agents}
 use Rattle.sm_market.specs.Matching.{held}
@@ -139,7 +140,7 @@ module _ (w : Written) where
   AreBack [] = Unit {0}
   AreBack (b ∷ bs) = (seated_rotation (seating_of w) (all_numbered w b.0) ≡ b.0) × (numbers_of (map pred b.1) ≡ b.1) × AreBack bs
 
-  are_back : (number : ℕ) (blocks : List Block) → AreOwn w (block_lines number blocks ++ LineData.End ∷ []) → AreBack blocks
+  are_back : (number : ℕ) (blocks : List Block) → AreOwn (Two w) (block_lines number blocks ++ LineData.End ∷ []) → AreBack blocks
   are_back number [] own = tt
   are_back number (b ∷ bs) own = (pairs_back b.0 own.1, numbers_back b.1 own.2.0.numbers.1.each, are_back (number + 1) bs own.2.2)
 
@@ -186,21 +187,21 @@ record Shaped (w : Written) (rest : List LineData) : Type 0 where
   blocks : List Block
   is : rest ≡ group ++ (block_lines 1 blocks ++ LineData.End ∷ [])
   words : HaveWord keyword.First group
-  own : AreOwn w group
+  own : AreOwn (Two w) group
   back : AreBack w blocks
 
-shaped : (w : Written) (rest : List LineData) → is_whole (rotations_layout ∷ []) (map opening_of rest) ≡ true → AreOwn w rest → Shaped w rest
+shaped : (w : Written) (rest : List LineData) → is_whole (rotations_layout ∷ []) (map opening_of rest) ≡ true → AreOwn (Two w) rest → Shaped w rest
 shaped w rest placed own =
     let g = grouped keyword.First (blocks_of 2 ∷ closing) rest placed in
     let b = blocked (length g.rest) 1 g.rest (omega arith) g.whole in
-    let owned = subst (AreOwn w) g.is own in
+    let owned = subst (AreOwn (Two w)) g.is own in
     record {
       group = g.group;
       blocks = b.blocks;
       is = g.is ∙ ap (λ (ls : List LineData). g.group ++ ls) b.is;
       words = g.words;
-      own = own_front w g.group g.rest owned;
-      back = are_back w 1 b.blocks (subst (AreOwn w) b.is (own_back w g.group g.rest owned));
+      own = own_front (Two w) g.group g.rest owned;
+      back = are_back w 1 b.blocks (subst (AreOwn (Two w)) b.is (own_back (Two w) g.group g.rest owned));
     }
 
 module _ (w : Written) (rest : List LineData) (h : Shaped w rest) where
@@ -243,7 +244,7 @@ module _ (w : Written) (rest : List LineData) (h : Shaped w rest) where
       h.is ∙ ap (λ (ls : List LineData). ls ++ behind) (read ∙ ap (map (seat_data w Proposers)) (sym firsts_are))
       ∙ ap (λ (ls : List LineData). map (seat_data w Proposers) (firsts_in w rest) ++ (ls ++ LineData.End ∷ [])) blocks_shown
 
-behind_head : (w : Written) (rest : List LineData) → IsInstance w → is_whole (rotations_layout ∷ []) (map opening_of rest) ≡ true → AreOwn w rest → IsChainWritten w (LineData.Answer HeadData.Rotations ∷ rest)
+behind_head : (w : Written) (rest : List LineData) → IsInstance w → is_whole (rotations_layout ∷ []) (map opening_of rest) ≡ true → AreOwn (Two w) rest → IsChainWritten w (LineData.Answer HeadData.Rotations ∷ rest)
     → IsRightButForOrder (IsRotationAnswer w) (LineData.Answer HeadData.Rotations ∷ rest)
 behind_head w rest i placed own c =
     let l = seat_market w in
@@ -264,7 +265,7 @@ behind_head w rest i placed own c =
 -- the law of `rotations`
 pub rotations_are_right : RotationsYes → RotationsAreRight
 rotations_are_right meaning w lines i g =
-    by_head (λ (ls : List LineData). AreOwn w ls → IsChainWritten w ls → IsRightButForOrder (IsRotationAnswer w) ls) g
+    by_head (λ (ls : List LineData). AreOwn (Two w) ls → IsChainWritten w ls → IsRightButForOrder (IsRotationAnswer w) ls) g
     (λ rest placed _ own c. behind_head w rest i placed own.2 c) (are_own g) (meaning w lines i g)
 
 -- What the lines show themselves.
@@ -300,7 +301,7 @@ needs_numbers w rest h =
         ∙ ap (λ (ns : List ℕ). ns ∷ map numbers_of (map (λ (b : Block). map pred b.1) bs)) (sym back.1)
 
 -- the first seat that lines say of a proposer is that of the pair that they say
-first_said_is : (w : Written) (lines : List LineData) → AreOwn w lines → (p : ℕ) → first_seat_in lines p ≡ option_map (seat_of (seating_of w)) (partner_in (firsts_in w lines) p)
+first_said_is : (w : Written) (lines : List LineData) → AreOwn (Two w) lines → (p : ℕ) → first_seat_in lines p ≡ option_map (seat_of (seating_of w)) (partner_in (firsts_in w lines) p)
 first_said_is w [] own p = refl
 first_said_is w (LineData.First q seat ∷ lines) own p = go (q == p) (first_said_is w lines own.2 p)
   where
@@ -310,7 +311,7 @@ first_said_is w (LineData.First q seat ∷ lines) own p = go (q == p) (first_sai
     go false e = e
 first_said_is w (_ ∷ lines) own p = first_said_is w lines own.2 p
 
-correspond : (w : Written) (rest : List LineData) → IsInstance w → is_whole (rotations_layout ∷ []) (map opening_of rest) ≡ true → AreOwn w rest → IsChainWritten w (LineData.Answer HeadData.Rotations ∷ rest)
+correspond : (w : Written) (rest : List LineData) → IsInstance w → is_whole (rotations_layout ∷ []) (map opening_of rest) ≡ true → AreOwn (Two w) rest → IsChainWritten w (LineData.Answer HeadData.Rotations ∷ rest)
     → IsCorrespondence w (shown_in w (LineData.Answer HeadData.Rotations ∷ rest))
 correspond w rest i placed own c =
     let s = seating_of w in
@@ -338,5 +339,5 @@ correspond w rest i placed own c =
 -- the law that the closed sets that are shown correspond to the stable matchings
 pub rotations_correspond : RotationsYes → RotationsCorrespond
 rotations_correspond meaning w lines i g =
-    by_head (λ (ls : List LineData). AreOwn w ls → IsChainWritten w ls → IsCorrespondence w (shown_in w ls)) g
+    by_head (λ (ls : List LineData). AreOwn (Two w) ls → IsChainWritten w ls → IsCorrespondence w (shown_in w ls)) g
     (λ rest placed _ own c. correspond w rest i placed own.2 c) (are_own g) (meaning w lines i g)

@@ -39,56 +39,75 @@ module _ {X : Type 0} (said : LineData → Option X) (above : List LineData) (x 
 pub unsaid_more : {X : Type 0} (said : LineData → Option X) (a b : List LineData) (z : LineData) → filter_map said a ≡ filter_map said b → filter_map said (a ++ z ∷ []) ≡ filter_map said (b ++ z ∷ [])
 unsaid_more {X} said a b z e = filter_map-append said a (z ∷ []) ∙ ap (λ (xs : List X). xs ++ filter_map said (z ∷ [])) e ∙ sym (filter_map-append said b (z ∷ []))
 
--- Pairs that they say.
+-- Things that they say.
 
--- whether a pair may stand behind others is seen by whom these give somebody, and of two that may stand in one order both may in the other
-pub record AreFreely (Free : List (ℕ × ℕ) → ℕ × ℕ → Type 0) : Type 0 where
-  pub apart : (xs : List (ℕ × ℕ)) (a b : ℕ × ℕ) → Free xs a → Free (xs ++ a ∷ []) b → a.0 ≢ b.0
-  pub first : (xs : List (ℕ × ℕ)) (a b : ℕ × ℕ) → Free xs a → Free (xs ++ a ∷ []) b → Free xs b
-  pub second : (xs : List (ℕ × ℕ)) (a b : ℕ × ℕ) → Free xs a → Free (xs ++ a ∷ []) b → Free (xs ++ b ∷ []) a
+-- of two things that may stand one behind the other in one order both may in the other, and what is read of them is the same
+pub record AreFreely {X : Type 0} (Free : List X → X → Type 0) (IsSame : List X → List X → Type 0) : Type 0 where
+  pub still : (xs : List X) → IsSame xs xs
+  pub first : (xs : List X) (a b : X) → Free xs a → Free (xs ++ a ∷ []) b → Free xs b
+  pub second : (xs : List X) (a b : X) → Free xs a → Free (xs ++ a ∷ []) b → Free (xs ++ b ∷ []) a
+  pub same : (xs : List X) (a b : X) → Free xs a → Free (xs ++ a ∷ []) b → IsSame ((xs ++ a ∷ []) ++ b ∷ []) ((xs ++ b ∷ []) ++ a ∷ [])
 
-pub freely : (w : Written) → AreFreely (IsFree w)
-freely w = record { apart = λ xs a b f g. free_apart xs a b f g; first = λ xs a b f g. free_first xs a b f g; second = λ xs a b f g. free_second xs a b f g }
+-- pairs of an instance
+pub freely : (w : Written) → AreFreely (IsFree w) AreSamePairs
+freely w = record {
+  still = λ xs. same_pairs xs xs refl;
+  first = λ xs a b f g. free_first xs a b f g;
+  second = λ xs a b f g. free_second xs a b f g;
+  same = λ xs a b f g. same_exchanged xs a b (free_apart xs a b f g);
+}
 
-pub seats_freely : (l : Lists) → AreFreely (IsFreeSeat l)
-seats_freely l = record { apart = λ xs a b f g. free_seat_apart xs a b f g; first = λ xs a b f g. free_seat_first xs a b f g; second = λ xs a b f g. free_seat_second xs a b f g }
+-- pairs of a market
+pub seats_freely : (l : Lists) → AreFreely (IsFreeSeat l) AreSamePairs
+seats_freely l = record {
+  still = λ xs. same_pairs xs xs refl;
+  first = λ xs a b f g. free_seat_first xs a b f g;
+  second = λ xs a b f g. free_seat_second xs a b f g;
+  same = λ xs a b f g. same_exchanged xs a b (free_seat_apart xs a b f g);
+}
 
-pub wanted_freely : (w : Written) (wanted : List (Option ℕ)) → AreFreely (IsWanted w wanted)
-wanted_freely w wanted = record { apart = λ xs a b f g. wanted_apart xs a b f g; first = λ xs a b f g. wanted_first xs a b f g; second = λ xs a b f g. wanted_second xs a b f g }
+-- pairs that are wanted
+pub wanted_freely : (w : Written) (wanted : List (Option ℕ)) → AreFreely (IsWanted w wanted) AreSamePairs
+wanted_freely w wanted = record {
+  still = λ xs. same_pairs xs xs refl;
+  first = λ xs a b f g. wanted_first xs a b f g;
+  second = λ xs a b f g. wanted_second xs a b f g;
+  same = λ xs a b f g. same_exchanged xs a b (wanted_apart xs a b f g);
+}
 
-module _ (said : LineData → Option (ℕ × ℕ)) where
-  -- with one more line
-  pub pairs_more : (a b : List LineData) (z : LineData) → AreSamePairs (filter_map said a) (filter_map said b) → AreSamePairs (filter_map said (a ++ z ∷ [])) (filter_map said (b ++ z ∷ []))
-  pairs_more a b z s =
-      subst (λ (xs : List (ℕ × ℕ)). AreSamePairs xs (filter_map said (b ++ z ∷ []))) (sym (filter_map-append said a (z ∷ [])))
-      (subst (AreSamePairs (filter_map said a ++ filter_map said (z ∷ []))) (sym (filter_map-append said b (z ∷ []))) (same_more s (filter_map said (z ∷ []))))
+-- with one more line
+pub pairs_more : (said : LineData → Option (ℕ × ℕ)) (a b : List LineData) (z : LineData) → AreSamePairs (filter_map said a) (filter_map said b) → AreSamePairs (filter_map said (a ++ z ∷ [])) (filter_map said (b ++ z ∷ []))
+pairs_more said a b z s =
+    subst (λ (xs : List (ℕ × ℕ)). AreSamePairs xs (filter_map said (b ++ z ∷ []))) (sym (filter_map-append said a (z ∷ [])))
+    (subst (AreSamePairs (filter_map said a ++ filter_map said (z ∷ []))) (sym (filter_map-append said b (z ∷ []))) (same_more s (filter_map said (z ∷ []))))
 
-  -- each of two lines may say its pair where the other one did
-  pub record IsExchanged (Free : List (ℕ × ℕ) → ℕ × ℕ → Type 0) (above : List LineData) (x y : LineData) : Type 0 where
+module _ {X : Type 0} (said : LineData → Option X) where
+  -- each of two lines may say its thing where the other one did
+  pub record IsExchanged (Free : List X → X → Type 0) (IsSame : List X → List X → Type 0) (above : List LineData) (x y : LineData) : Type 0 where
     pub first : IfSome (said y) (Free (filter_map said above))
     pub second : IfSome (said x) (Free (filter_map said (above ++ y ∷ [])))
-    pub alike : AreSamePairs (filter_map said ((above ++ x ∷ []) ++ y ∷ [])) (filter_map said ((above ++ y ∷ []) ++ x ∷ []))
+    pub alike : IsSame (filter_map said ((above ++ x ∷ []) ++ y ∷ [])) (filter_map said ((above ++ y ∷ []) ++ x ∷ []))
 
-  -- two lines of which both say a pair or neither does
-  pub exchanged_said : {Free : List (ℕ × ℕ) → ℕ × ℕ → Type 0} → AreFreely Free → (above : List LineData) (x y : LineData) → is_some (said x) ≡ is_some (said y)
-      → IfSome (said x) (Free (filter_map said above)) → IfSome (said y) (Free (filter_map said (above ++ x ∷ []))) → IsExchanged Free above x y
-  exchanged_said {Free} fr above x y same f g = go (said x) (said y) refl refl f g
+  -- two lines of which both say a thing or neither does
+  pub exchanged_said : {Free : List X → X → Type 0} {IsSame : List X → List X → Type 0} → AreFreely Free IsSame → (above : List LineData) (x y : LineData) → is_some (said x) ≡ is_some (said y)
+      → IfSome (said x) (Free (filter_map said above)) → IfSome (said y) (Free (filter_map said (above ++ x ∷ []))) → IsExchanged Free IsSame above x y
+  exchanged_said {Free} {IsSame} fr above x y same f g = go (said x) (said y) refl refl f g
     where
-      go : (o p : Option (ℕ × ℕ)) → said x ≡ o → said y ≡ p → IfSome o (Free (filter_map said above)) → IfSome p (Free (filter_map said (above ++ x ∷ []))) → IsExchanged Free above x y
+      go : (o p : Option X) → said x ≡ o → said y ≡ p → IfSome o (Free (filter_map said above)) → IfSome p (Free (filter_map said (above ++ x ∷ []))) → IsExchanged Free IsSame above x y
       go None None ex ey f g = record {
         first = subst (λ o. IfSome o (Free (filter_map said above))) (sym ey) tt;
         second = subst (λ o. IfSome o (Free (filter_map said (above ++ y ∷ [])))) (sym ex) tt;
-        alike = same_pairs _ _ (unsaid said above x y ex ey);
+        alike = subst (IsSame (filter_map said ((above ++ x ∷ []) ++ y ∷ []))) (unsaid said above x y ex ey) (fr.still (filter_map said ((above ++ x ∷ []) ++ y ∷ [])));
       }
       go (Some a) (Some b) ex ey f g =
           let xs = filter_map said above in
-          let after = subst (λ (zs : List (ℕ × ℕ)). Free zs b) (said_one said above x a ex) g in
+          let after = subst (λ (zs : List X). Free zs b) (said_one said above x a ex) g in
           record {
             first = subst (λ o. IfSome o (Free xs)) (sym ey) (fr.first xs a b f after);
-            second = subst (λ o. IfSome o (Free (filter_map said (above ++ y ∷ [])))) (sym ex) (subst (λ (zs : List (ℕ × ℕ)). Free zs a) (sym (said_one said above y b ey)) (fr.second xs a b f after));
-            alike = subst (λ (zs : List (ℕ × ℕ)). AreSamePairs zs (filter_map said ((above ++ y ∷ []) ++ x ∷ []))) (sym (said_one said (above ++ x ∷ []) y b ey ∙ ap (λ (zs : List (ℕ × ℕ)). zs ++ b ∷ []) (said_one said above x a ex)))
-                (subst (AreSamePairs ((xs ++ a ∷ []) ++ b ∷ [])) (sym (said_one said (above ++ y ∷ []) x a ex ∙ ap (λ (zs : List (ℕ × ℕ)). zs ++ a ∷ []) (said_one said above y b ey)))
-                (same_exchanged xs a b (fr.apart xs a b f after)));
+            second = subst (λ o. IfSome o (Free (filter_map said (above ++ y ∷ [])))) (sym ex) (subst (λ (zs : List X). Free zs a) (sym (said_one said above y b ey)) (fr.second xs a b f after));
+            alike = subst (λ (zs : List X). IsSame zs (filter_map said ((above ++ y ∷ []) ++ x ∷ []))) (sym (said_one said (above ++ x ∷ []) y b ey ∙ ap (λ (zs : List X). zs ++ b ∷ []) (said_one said above x a ex)))
+                (subst (IsSame ((xs ++ a ∷ []) ++ b ∷ [])) (sym (said_one said (above ++ y ∷ []) x a ex ∙ ap (λ (zs : List X). zs ++ a ∷ []) (said_one said above y b ey)))
+                (fr.same xs a b f after));
           }
       go None (Some b) ex ey f g = absurd (false≢true (sym (ap is_some ex) ∙ same ∙ ap is_some ey))
       go (Some a) None ex ey f g = absurd (false≢true (sym (ap is_some ey) ∙ sym same ∙ ap is_some ex))

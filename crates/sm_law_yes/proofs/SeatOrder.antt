@@ -107,7 +107,7 @@ module _ (w : Written) where
       → Exchanges (FirstsHold w) AreFirstsAlike above x y
   firsts_exchange above x y e f hx hy = record { first = first; second = second; alike = record { pairs = t.alike; ups = up_exchanged is_up_to_firsts above x y } }
     where
-      t : IsExchanged (first_in w) (IsFreeSeat l) above x y
+      t : IsExchanged (first_in w) (IsFreeSeat l) AreSamePairs above x y
       t = exchanged_said (first_in w) (seats_freely l) above x y (alike_said (first_in w) keyword.First (has_first w) x y e) (hx reason.NotAMatching) (hy reason.NotAMatching)
 
       same : is_up_to_firsts x ≡ is_up_to_firsts y
@@ -232,7 +232,7 @@ module _ (w : Written) where
 
   module _ (above : List LineData) (x y : LineData) (e : keyword_of x ≡ keyword_of y) (f : is_free (keyword_of x) ≡ true) where
     module _ (hx : (why : Reason) → LastsHold w above x why) (hy : (why : Reason) → LastsHold w (above ++ x ∷ []) y why) where
-      lasts_exchanged : IsExchanged (last_in w) (IsFreeSeat (seat_market w)) above x y
+      lasts_exchanged : IsExchanged (last_in w) (IsFreeSeat (seat_market w)) AreSamePairs above x y
       lasts_exchanged = exchanged_said (last_in w) (seats_freely (seat_market w)) above x y (alike_said (last_in w) keyword.Last (has_last w) x y e) (hx reason.NotAMatching) (hy reason.NotAMatching)
 
       lasts_first : (why : Reason) → LastsHold w above y why

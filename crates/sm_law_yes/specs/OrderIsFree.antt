@@ -1,13 +1,12 @@
 -- The order of free lines says nothing.
 use Rattle.std.specs.Prelude.{List}
-use Rattle.sm_instance.specs.Written.{Written}
-use Rattle.sm_instance.specs.declared.inputs.Input.TheVariants.{Two}
+use Rattle.sm_instance.specs.declared.inputs.Input.{Input}
 use Rattle.sm_report.specs.Heads.{HeadData}
 use Rattle.sm_report.specs.Lines.{LineData}
 use Rattle.sm_cert.specs.Yes.{GetsYes}
 use Rattle.sm_law_yes.specs.Reordered.{IsReordered}
 
--- an answer over two sides that gets a yes gets it in any order of its free lines
+-- an answer that gets a yes gets it in any order of its free lines
 abbrev pub OrderIsFree : Type 0
-OrderIsFree = (w : Written) (head : HeadData) (lines others : List LineData)
-    → GetsYes (Two w) head lines → IsReordered lines others → GetsYes (Two w) head others
+OrderIsFree = (input : Input) (head : HeadData) (lines others : List LineData)
+    → GetsYes input head lines → IsReordered lines others → GetsYes input head others

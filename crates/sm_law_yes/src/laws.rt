@@ -4,7 +4,7 @@
 
 ghost use Rattle.sm_law_yes.specs.Reordered.{ReorderedIsPermuted};
 ghost use Rattle.sm_law_yes.specs.YesIsRight.{SolveIsRight, ReducedIsRight, RotationsAreRight, MeetIsRight, JoinIsRight, CouplesAreRight, PartiesAreRight};
-ghost use Rattle.sm_law_yes.specs.Exactly.{SolveExactly, ReducedExactly, RotationsExactly, MeetExactly, JoinExactly};
+ghost use Rattle.sm_law_yes.specs.Exactly.{SolveExactly, ReducedExactly, RotationsExactly, MeetExactly, JoinExactly, RoomExactly};
 ghost use Rattle.sm_law_yes.specs.Correspond.{RotationsCorrespond};
 ghost use Rattle.sm_law_yes.specs.OrderIsFree.{OrderIsFree};
 
@@ -74,7 +74,7 @@ pub fn parties_are_right()
     laws::none_yes();
 }
 
-/// An answer over an instance with two sides that gets a yes gets it in any order of its free lines.
+/// An answer that gets a yes gets it in any order of its free lines.
 pub fn order_is_free()
     ensures { OrderIsFree }
 {}
@@ -120,4 +120,15 @@ pub fn join_exactly()
 {
     laws::join_yes();
     agree::join_agrees();
+}
+
+/// Over roommates the answers of `solve` that get a yes are exactly the right ones, but for the order of the couples or of the
+/// parties.
+pub fn room_exactly()
+    ensures { RoomExactly }
+{
+    laws::couples_yes();
+    laws::none_yes();
+    agree::couples_agree();
+    agree::parties_agree();
 }
