@@ -1,5 +1,5 @@
 -- Right answers, but for the order of their free lines, get a yes; and no others do.
-use Rattle.std.proofs.Common.{◌≡◌, inl, inr, refl, sym, ap, ◌∙◌, List, [], ◌∷◌, map, Some, None, subst}
+use Rattle.std.proofs.Common.{◌≡◌, inl, inr, refl, ap, ◌∙◌, List, [], ◌∷◌, map, Some, None, subst}
 use Rattle.std.specs.List.{All, slice_get}
 use Rattle.std.proofs.lemmas.List.Elements.{All-head, All-tail}
 use Rattle.std.proofs.lemmas.List.Sorted.{All-permutation}

@@ -19,7 +19,7 @@ use Rattle.sm_check_forms.specs.Forms.{AreAnswer, fits, layouts_of, number_in, o
 use Rattle.sm_check_clauses.specs.declared.verdicts.Reason.{Reason}
 use Rattle.sm_check_clauses.specs.Verdicts.{AtLine}
 use Rattle.sm_check_clauses.specs.Judging.{Subject, answer, couples, parties, Clauses, Holds}
-use Rattle.sm_check_clauses.proofs.LinewiseLemmas.{AllHold, all_hold}
+use Rattle.sm_check_clauses.proofs.LinewiseLemmas.{all_hold}
 use Rattle.sm_cert.specs.Yes.{GetsYes}
 use Rattle.sm_law_yes.specs.Reordered.{is_free, IsReordered}
 use Rattle.sm_law_yes.specs.Reordered.IsReordered.{none, kept, exchanged, both}

@@ -1,9 +1,9 @@
 -- The order of couples and of parties says nothing in an answer of `solve` over roommates.
-use Rattle.std.proofs.Common.{◌≡◌, ◌≢◌, ◌⊎◌, ℕ, ◌+◌, ◌<◌, ◌≤◌, ◌==◌, inl, inr, arith, refl, sym, ap, ◌∙◌, cond, Bool, true, false, List, [], ◌∷◌, ◌++◌, length, map, get_or, Option, Some, None, subst, eq-eqb, ne_eqb}
-use Rattle.std.specs.Prelude.{IfSome, filter_map, Contains, count_by, find}
-use Rattle.std.specs.List.{flat_map, range_with_len}
+use Rattle.std.proofs.Common.{◌≡◌, ◌≢◌, ◌⊎◌, ℕ, ◌+◌, ◌≤◌, ◌==◌, inl, inr, arith, refl, sym, ap, ◌∙◌, cond, Bool, true, false, List, [], ◌∷◌, ◌++◌, length, map, Option, Some, None, subst, ne_eqb}
+use Rattle.std.specs.Prelude.{IfSome, Contains, count_by, find}
+use Rattle.std.specs.List.{range_with_len}
 use Rattle.std.specs.Option.{is_some, option_or, option_map_or}
-use Rattle.std.proofs.lemmas.Bool.{false≢true, cases_eq, cases_lt}
+use Rattle.std.proofs.lemmas.Bool.{cases_eq, cases_lt}
 use Rattle.std.proofs.lemmas.List.{get_or_default}
 use Rattle.std.proofs.lemmas.List.Concat.{flat_map-append}
 use Rattle.std.proofs.lemmas.List.Folds.{find-append}
@@ -19,8 +19,8 @@ use Rattle.sm_check_forms.specs.Keywords.{is_same}
 use Rattle.sm_pairs.specs.Held.{partner_in}
 use Rattle.sm_check_clauses.specs.declared.verdicts.Reason.{Reason}
 use Rattle.sm_check_clauses.specs.declared.verdicts.Reason.TheVariants as reason
-use Rattle.sm_check_clauses.specs.Said.{pair_in, pairs_in, party_in, parties_in, IsEnd}
-use Rattle.sm_check_clauses.specs.Rooming.{persons_of, both_ways, mates_in, IsFreeCouple, CouplesHold, members_of, next_in_party, next_of, nexts_of, AreNew, IsWholePartition, HasOddParty, PartiesHold}
+use Rattle.sm_check_clauses.specs.Said.{pair_in, pairs_in, party_in, parties_in}
+use Rattle.sm_check_clauses.specs.Rooming.{persons_of, both_ways, IsFreeCouple, CouplesHold, members_of, next_in_party, AreNew, PartiesHold}
 use Rattle.sm_check_clauses.specs.Judging.{couples, parties, Clauses}
 use Rattle.sm_check_roommates.specs.PartiesKept.{is_among}
 use Rattle.sm_check_roommates.proofs.CoupleLemmas.{partner_in-append}
