@@ -32,6 +32,7 @@ not_closing _ f e = absurd (false≢true e)
 
 -- What neither line says.
 module _ {X : Type 0} (said : LineData → Option X) (above : List LineData) (x y : LineData) (none : said x ≡ None) (other : said y ≡ None) where
+  -- is said as before with the two exchanged
   pub unsaid : filter_map said ((above ++ x ∷ []) ++ y ∷ []) ≡ filter_map said ((above ++ y ∷ []) ++ x ∷ [])
   unsaid = said_same said (above ++ x ∷ []) y other ∙ said_same said above x none ∙ sym (said_same said (above ++ y ∷ []) x none ∙ said_same said above y other)
 

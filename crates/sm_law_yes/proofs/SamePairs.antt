@@ -132,9 +132,11 @@ module _ (xs : List (ℕ × ℕ)) (a b : ℕ × ℕ) where
       ∙ ap (λ t. cond t (Some b.1) None) (ne_eqb b.0 a.0 (λ same. apart (sym same)))
 
   module _ {w : Written} (f : IsFree w xs a) (g : IsFree w (xs ++ a ∷ []) b) where
+    -- the two have different proposers, and may stand in the other order
     pub free_apart : a.0 ≢ b.0
     free_apart = apart_of g.proposer_free
 
+    -- the second may stand first
     pub free_first : IsFree w xs b
     free_first = record {
       acceptable = g.acceptable;
@@ -142,6 +144,7 @@ module _ (xs : List (ℕ × ℕ)) (a b : ℕ × ℕ) where
       place_free = let less = g.place_free in omega (arith, less, times_one xs a b.1);
     }
 
+    -- and the first behind it
     pub free_second : IsFree w (xs ++ b ∷ []) a
     free_second = record {
       acceptable = f.acceptable;
@@ -162,9 +165,11 @@ module _ (xs : List (ℕ × ℕ)) (a b : ℕ × ℕ) where
     }
 
   module _ {l : Lists} (f : IsFreeSeat l xs a) (g : IsFreeSeat l (xs ++ a ∷ []) b) where
+    -- so it is with seats
     pub free_seat_apart : a.0 ≢ b.0
     free_seat_apart = apart_of g.proposer_free
 
+    -- the second pair may stand first
     pub free_seat_first : IsFreeSeat l xs b
     free_seat_first = record {
       acceptable = g.acceptable;
@@ -172,6 +177,7 @@ module _ (xs : List (ℕ × ℕ)) (a b : ℕ × ℕ) where
       seat_free = let free = g.seat_free in omega (arith, free, times_one xs a b.1);
     }
 
+    -- and the first pair behind it
     pub free_seat_second : IsFreeSeat l (xs ++ b ∷ []) a
     free_seat_second = record {
       acceptable = f.acceptable;
@@ -189,11 +195,14 @@ module _ (xs : List (ℕ × ℕ)) (a b : ℕ × ℕ) where
     }
 
   module _ {w : Written} {wanted : List (Option ℕ)} (f : IsWanted w wanted xs a) (g : IsWanted w wanted (xs ++ a ∷ []) b) where
+    -- and with pairs that are wanted
     pub wanted_apart : a.0 ≢ b.0
     wanted_apart = apart_of g.once
 
+    -- the second is wanted first
     pub wanted_first : IsWanted w wanted xs b
     wanted_first = record { in_matching = g.in_matching; once = nobody_before g.once }
 
+    -- and the first behind it
     pub wanted_second : IsWanted w wanted (xs ++ b ∷ []) a
     wanted_second = record { in_matching = f.in_matching; once = nobody_then wanted_apart f.once }

@@ -43,10 +43,12 @@ module _ (w : Written) where
   has_last (LineData.Last p seat) = refl
   has_last _ = refl
 
+  -- a free line says no rotation
   pub no_rotation : (x : LineData) → is_free (keyword_of x) ≡ true → rotation_in w x ≡ None
   no_rotation (LineData.Rotation i pairs) f = absurd (false≢true f)
   no_rotation _ f = refl
 
+-- nor what one needs
 pub no_needs : (x : LineData) → is_free (keyword_of x) ≡ true → needs_in x ≡ None
 no_needs (LineData.Needs i needed) f = absurd (false≢true f)
 no_needs _ f = refl
@@ -69,6 +71,7 @@ up_rotation (LineData.SecondGain i gain) f = absurd (false≢true f)
 up_rotation _ f = refl
 
 module _ (x y : LineData) (e : keyword_of x ≡ keyword_of y) (f : is_free (keyword_of x) ≡ true) where
+  -- the other line is free too
   pub free_too : is_free (keyword_of y) ≡ true
   free_too = ap is_free (sym e) ∙ f
 
@@ -103,6 +106,7 @@ module _ (w : Written) where
   firsts_carry a b z reason.NotBest s h = λ c. subst (IsProposersBest l) (same_first a b s) (h (behind_same is_up_to_firsts a b z s.ups c))
   firsts_carry a b z _ s h = tt
 
+  -- the clauses on first seats hold at two lines in the other order
   pub firsts_exchange : (above : List LineData) (x y : LineData) → keyword_of x ≡ keyword_of y → is_free (keyword_of x) ≡ true → ((why : Reason) → FirstsHold w above x why) → ((why : Reason) → FirstsHold w (above ++ x ∷ []) y why)
       → Exchanges (FirstsHold w) AreFirstsAlike above x y
   firsts_exchange above x y e f hx hy = record { first = first; second = second; alike = record { pairs = t.alike; ups = up_exchanged is_up_to_firsts above x y } }
@@ -144,18 +148,21 @@ module _ (w : Written) where
   chain_carries a b z _ s h = tt
 
   module _ (above : List LineData) (x y : LineData) (e : keyword_of x ≡ keyword_of y) (f : is_free (keyword_of x) ≡ true) (hx : (why : Reason) → ChainHolds w above x why) where
+    -- and so do those on the chain: at the second line where the first was
     pub chain_first : (why : Reason) → ChainHolds w above y why
     chain_first reason.NotExposed = subst (λ o. IfSome o (IsLowestExposed (seat_market w) (reached w above))) (sym (no_rotation w y (free_too x y e f))) tt
     chain_first reason.RotationMissing = λ c. hx reason.RotationMissing (behind_first is_up_to_rotations above x y (same_up_rotation x y e f) c)
     chain_first reason.WrongNeeds = subst (λ o. IfSome o (AreNeedsOf (seat_market w) (rotations_in w above) (last_rotation w above))) (sym (no_needs y (free_too x y e f))) tt
     chain_first _ = tt
 
+    -- and at the first line behind it
     pub chain_second : (why : Reason) → ChainHolds w (above ++ y ∷ []) x why
     chain_second reason.NotExposed = subst (λ o. IfSome o (IsLowestExposed (seat_market w) (reached w (above ++ y ∷ [])))) (sym (no_rotation w x f)) tt
     chain_second reason.RotationMissing = λ c. behind_second is_up_to_rotations above x y (same_up_rotation x y e f) c
     chain_second reason.WrongNeeds = subst (λ o. IfSome o (AreNeedsOf (seat_market w) (rotations_in w (above ++ y ∷ [])) (last_rotation w (above ++ y ∷ [])))) (sym (no_needs x f)) tt
     chain_second _ = tt
 
+  -- the order of first seats in `rotations`
   pub rotations_order : SeesNoOrder (Clauses (answer w HeadData.Rotations)) AreChainsAlike
   rotations_order = record {
     carries = λ a b z why s h. (firsts_carry w a b z why s.firsts h.0, chain_carries a b z why s h.1);
@@ -301,6 +308,7 @@ module _ (w : Written) where
     }
     lists_second _ = tt
 
+  -- the order of seats and of lists in `reduced`
   pub reduced_order : SeesNoOrder (Clauses (answer w HeadData.Reduced)) AreListsAlike
   reduced_order = record {
     carries = λ a b z why s h. (firsts_carry w a b z why s.firsts h.0, lasts_carry a b z why s h.1, lists_carry a b z why s h.2);
