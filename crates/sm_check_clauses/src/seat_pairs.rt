@@ -19,7 +19,11 @@ pub struct SeatPairs {
 }
 
 impl SeatPairs {
-    /// No pair so far.
+    /// No pair so far. Takes time and memory in proportion to the agents of the market.
+    ///
+    /// # Errors
+    ///
+    /// `AllocError` where memory ran out, and only then.
     pub fn none(alloc: Global, market: &Market) -> Result<SeatPairs, AllocError>
         ensures { IfOk result (λ pairs. AreSeatPairs market.now [] pairs) }
     {
@@ -29,7 +33,8 @@ impl SeatPairs {
         })
     }
 
-    /// Whether a pair may stand behind those that are kept. It is kept too then. Looks through the proposer's list.
+    /// Whether a pair may stand behind those that are kept: `true` keeps it too, and `false` leaves what is kept as it is. Takes
+    /// time in the length of the proposer's list.
     pub fn add(&mut self, market: &Market, p: u32, seat: u32) -> bool
         requires proposer { p < length market.now.proposers }
         requires seat { seat < length market.now.reviewers }
@@ -37,6 +42,7 @@ impl SeatPairs {
         requires seats_each { length self.old.taken.items ≡ length market.now.reviewers }
         ensures { (pairs : List (ℕ × ℕ)) → AreSeatPairs market.now pairs self.old
             → TakesSeat market.now pairs (p, seat) self.new result }
+        ensures kept { result ≡ false → self.new ≡ self.old }
     {
         let Some(place) = place_of(market, p, seat) else {
             return false;

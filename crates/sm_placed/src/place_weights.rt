@@ -44,8 +44,8 @@ pub fn weights_of_places(
     }
 }
 
-/// The same by second weights, which are all 0 where places are weighed by ranks. Nothing is looked up where
-/// [`has_two_levels`] says no.
+/// The same by second weights, which are all 0 where places are weighed by ranks. Takes time and memory in proportion to the places,
+/// and a look-up for each where [`has_two_levels`] says yes.
 ///
 /// # Errors
 ///

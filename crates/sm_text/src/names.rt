@@ -27,7 +27,7 @@ fn are_name_bytes(run: &[u8]) -> bool
 pub fn begins_name(b: u8) -> bool
     ensures { result ≡ begins_name b }
 {
-    is_name_byte(b) && b != b'.' && b != b'-'
+    is_name_byte(b) && b > b'.'
 }
 
 /// May a name hold this byte: is it a letter, a digit, `_`, `.` or `-`? Takes constant time.
