@@ -171,7 +171,7 @@ pairs_right {w} {s} h {rows} a =
         rising = places_rise h a p here;
         has = λ i _ t. found_in (places p) i t;
         from = λ i c. omega arith;
-        below = λ i c. let x = place_from h a p here i c in x.stable.matching.assigned.on_lists p i x.holds;
+        below = λ i c. let x = place_from h a p here i c in let on = x.stable.matching.assigned.on_lists p i x.holds in omega (arith, on);
         passes = λ i c. is_found (places p) i c;
       })))));
     }

@@ -89,12 +89,12 @@ pub is_found : (xs : List ℕ) (y : ℕ) → Contains xs y → list_any (λ x. x
 is_found xs y c = list_any_at (λ x. x == y) xs c.0 y c.1 (eq-eqb (get_or xs c.0 y) y c.2)
 
 -- a test finds in a range from a on just the numbers of a rising list
-record Finds (test : ℕ → Bool) (xs : List ℕ) (a n : ℕ) : Type 0 where
-  rising : IsStrictlyIncreasing xs
-  has : (i : ℕ) → a ≤ i → test i ≡ true → Contains xs i
-  from : (i : ℕ) → Contains xs i → a ≤ i
-  below : (i : ℕ) → Contains xs i → i < a + n
-  passes : (i : ℕ) → Contains xs i → test i ≡ true
+pub record Finds (test : ℕ → Bool) (xs : List ℕ) (a n : ℕ) : Type 0 where
+  pub rising : IsStrictlyIncreasing xs
+  pub has : (i : ℕ) → a ≤ i → test i ≡ true → Contains xs i
+  pub from : (i : ℕ) → Contains xs i → a ≤ i
+  pub below : (i : ℕ) → Contains xs i → i < a + n
+  pub passes : (i : ℕ) → Contains xs i → test i ≡ true
 
 -- the first of rising numbers is below the others
 below_later : (x y : ℕ) (xs : List ℕ) → IsStrictlyIncreasing (x ∷ xs) → Contains xs y → x < y
@@ -108,13 +108,13 @@ rest_rises x xs up k l = let e : suc k + 1 ≡ suc (k + 1) = omega arith in subs
 first_is : (test : ℕ → Bool) (a n : ℕ) (xs : List ℕ) → test a ≡ true → Finds test xs a (suc n)
     → ((ys : List ℕ) → Finds test ys (a + 1) n → filter test (range_with_len (a + 1) n) ≡ ys) → a ∷ filter test (range_with_len (a + 1) n) ≡ xs
 first_is test a n [] t f rest = absurd (let c = f.has a (omega arith) t in let l = c.1 in omega arith)
-first_is test a n (x ∷ xs) t f rest = subst (λ y. a ∷ filter test (range_with_len (a + 1) n) ≡ y ∷ xs) same (ap (λ ys. a ∷ ys) (rest xs record {
+first_is test a n (x ∷ xs) t f rest = subst (λ y. a ∷ filter test (range_with_len (a + 1) n) ≡ y ∷ xs) same (ap (λ ys. a ∷ ys) (rest xs (record {
   rising = rest_rises x xs f.rising;
   has = λ i l p. elim (contains_cases x i xs (f.has i (omega (arith, l)) p)) [ inl e ↦ absurd (omega (arith, l, e, same)) | inr later ↦ later ];
   from = λ i c. let l = below_later x i xs f.rising c in omega (arith, l, same);
   below = λ i c. let l = f.below i (contains_later x i xs c) in omega (arith, l);
   passes = λ i c. f.passes i (contains_later x i xs c);
-}))
+})))
   where
     same : a ≡ x
     same = elim (contains_cases x a xs (f.has a (omega arith) t)) [
