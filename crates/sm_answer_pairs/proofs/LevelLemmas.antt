@@ -163,17 +163,17 @@ pairs_right {w} {s} h {rows} a =
           let c = place_in h a p (named x) i x in
           (λ t. one_fixed h a p (named x) i c (eqb-true (length (row rows p)) 1 t), λ f. eq-eqb (length (row rows p)) 1 (fixed_one h a p (named x) i c f));
       shows = ap (λ lines. LineData.Answer HeadData.Pairs ∷ (lines ++ LineData.End ∷ [])) (
-      made_of_each line_of_pair at_levels (range_with_len 0 n)
-      ∙ each_alike (λ p. map line_of_pair (at_levels p)) (partner_lines w is_stable is_fixed) 0 n (λ p z l.
-      let here : p < n = omega (arith, l) in
-      map-map line_of_pair (pair_at w (length (row rows p) == 1) p) (places p)
-      ∙ ap (map (λ i. partner_line (length (row rows p) == 1) p (entry w.proposers p i))) (sym (kept_is (is_stable p) 0 (length (written_row w.proposers p)) (places p) (record {
-        rising = places_rise h a p here;
-        has = λ i _ t. found_in (places p) i t;
-        from = λ i c. omega arith;
-        below = λ i c. let x = place_from h a p here i c in let on = x.stable.matching.assigned.on_lists p i x.holds in omega (arith, on);
-        passes = λ i c. is_found (places p) i c;
-      })))));
+          made_of_each line_of_pair at_levels (range_with_len 0 n)
+          ∙ each_alike (λ p. map line_of_pair (at_levels p)) (partner_lines w is_stable is_fixed) 0 n (λ p z l.
+          let here : p < n = omega (arith, l) in
+          map-map line_of_pair (pair_at w (length (row rows p) == 1) p) (places p)
+          ∙ ap (map (λ i. partner_line (length (row rows p) == 1) p (entry w.proposers p i))) (sym (kept_is (is_stable p) 0 (length (written_row w.proposers p)) (places p) (record {
+            rising = places_rise h a p here;
+            has = λ i _ t. found_in (places p) i t;
+            from = λ i c. omega arith;
+            below = λ i c. let x = place_from h a p here i c in let on = x.stable.matching.assigned.on_lists p i x.holds in omega (arith, on);
+            passes = λ i c. is_found (places p) i c;
+          })))));
     }
 
 -- levels of stable matchings begin at 1
