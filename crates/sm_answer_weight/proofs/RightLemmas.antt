@@ -1,5 +1,5 @@
 -- The lines of the answer of `weight` are right.
-use Rattle.std.proofs.Common.{◌≡◌, ℕ, suc, ◌+◌, ◌-◌, ◌<◌, Bool, true, false, List, [], ◌∷◌, ◌++◌, length, map, slice_index_or, ℤ, pos, refl, sym, ap, ◌∙◌, subst, arith}
+use Rattle.std.proofs.Common.{◌≡◌, ℕ, suc, ◌+◌, ◌-◌, ◌<◌, Bool, true, false, List, [], ◌∷◌, ◌++◌, length, map, slice_index_or, Option, ℤ, pos, refl, sym, ap, ◌∙◌, subst, arith}
 use Rattle.std.specs.List.{flat_map, range_with_len}
 use Rattle.std.proofs.lemmas.List.{get_or-map}
 use Rattle.std.proofs.lemmas.List.FromFn.{length-map-range_with_len}
@@ -35,7 +35,7 @@ use Rattle.sm_answer_rotations.specs.Reduction.{seat_line}
 use Rattle.sm_answer_rotations.specs.RotationLines.{first_seat_line, first_seat, seated_rotation, shown_of}
 use Rattle.sm_answer_rotations.specs.RotationAnswer.{pairs_of}
 use Rattle.sm_answer_rotations.specs.GivenLines.{two_lines}
-use Rattle.sm_answer_rotations.proofs.ShownLemmas.{pairs_at_shown, correspondence}
+use Rattle.sm_answer_rotations.proofs.ShownLemmas.{pairs_at_shown, matching_is}
 use Rattle.sm_answer_rotations.proofs.PairLemmas.{pair_alike}
 use Rattle.sm_answer_rotations.proofs.RotationLemmas.{flat_map_alike, lines_shown, first_shown}
 use Rattle.sm_answer_weight.specs.WeightAnswer.{FillsCut, AreCertificates, gain_of_pairs, gain_in, second_gain_in, in_two, WeightParts, net_in, second_net_in, matching_in, gained_lines, flow_line, second_flow_line, member_numbers, second_figures, weight_lines, IsWeightAnswer}
@@ -118,9 +118,14 @@ module _ {w : Written} (h : IsSeating w (seating_of w)) (found : Lightest) (f : 
   places_there : found.matching.places ≡ set_matching (seated_poset w found) f.source.set.members.items
   places_there = f.places ∙ ap (λ (q : RotationPoset). set_matching q found.taken.members.items) same_poset ∙ ap (set_matching (seated_poset w found)) f.taken
 
-  -- the matching is the lightest in the instance, too
+  -- the matching that is shown of the set
+  shown_is : matching_in w (parts_in f needs) ≡ written_of (seating_of w) (set_matching (seated_poset w found) f.source.set.members.items).proposers
+  shown_is = matching_is h needs printed_there.chain needs_there.each f.source.set.members.items
+
+  -- it is the lightest in the instance, too
   lightest_in : IsLightestByBoth found.by w (matching_in w (parts_in f needs))
-  lightest_in = lightest_by_both h found.by (set_matching (seated_poset w found) f.source.set.members.items) lightest_there.lightest lightest_there.best
+  lightest_in = subst (IsLightestByBoth found.by w) (sym shown_is)
+      (lightest_by_both h found.by (set_matching (seated_poset w found) f.source.set.members.items) lightest_there.lightest lightest_there.best)
 
   -- in one level there are no second gains
   no_gains : has_two_levels found.by w ≡ false → AreZero f.source.gains2.items
@@ -170,7 +175,8 @@ module _ {w : Written} (h : IsSeating w (seating_of w)) (found : Lightest) (f : 
       ap (λ two. in_two two (figures found.second_value found.second_value found.second_total)) f.two_levels
       ∙ ap (λ v. in_two two (figures v found.second_value found.second_total)) (f.second_value ∙ sym full_there.second.value)
       ∙ ap (λ k. in_two two (figures value k found.second_total)) (f.second_value ∙ sym full_there.second.cut_is)
-      ∙ ap (λ z. in_two two (figures value cut z)) (f.second_total ∙ ap (λ (x : Places). second_of found.by w (written_of (seating_of w) x.proposers)) places_there)
+      ∙ ap (λ z. in_two two (figures value cut z)) (f.second_total ∙ ap (λ (x : Places). second_of found.by w (written_of (seating_of w) x.proposers)) places_there
+      ∙ sym (ap (second_of found.by w) shown_is))
 
   -- the lines that are given are those of the answer
   given_is : weight_given (seating_of w) found found.basis.poset.first.places found.basis.poset.rotations needs ≡ weight_lines found.by w (parts_in f needs)
@@ -201,20 +207,19 @@ module _ {w : Written} (h : IsSeating w (seating_of w)) (found : Lightest) (f : 
       (ap (λ set. LineData.Taken (member_numbers set (length set))) f.taken)
       (ap (λ v. LineData.Value v) (f.value ∙ sym full_there.first.value))
       (ap (λ v. LineData.Cut v) (f.value ∙ sym full_there.first.cut_is))
-      (ap (λ z. LineData.Total z) (f.total ∙ ap (λ (x : Places). written_weight found.by w (written_of s x.proposers)) places_there))
+      (ap (λ z. LineData.Total z) (f.total ∙ ap (λ (x : Places). written_weight found.by w (written_of s x.proposers)) places_there ∙ sym (ap (written_weight found.by w) shown_is)))
       second_shown
       (ap (λ (x : Places). lines_from (seated_pair_line s x) 0 (length s.market.proposers - 0)) places_there
       ∙ ap (lines_from (seated_pair_line s m) 0) all
-      ∙ lines_from-same (seated_pair_line s m) (pair_line w (written_of s m.proposers)) (pair_alike h m lightest_there.lightest.stable) 0 (length w.proposers))
+      ∙ lines_from-same (seated_pair_line s m) (pair_line w (written_of s m.proposers)) (pair_alike h m lightest_there.lightest.stable) 0 (length w.proposers)
+      ∙ ap (λ (x : List (Option ℕ)). lines_from (pair_line w x) 0 (length w.proposers)) (sym shown_is))
 
   right_there : IsInstance w → IsWeightAnswer found.by w (weight_given (seating_of w) found found.basis.poset.first.places found.basis.poset.rotations needs)
   right_there i = record {
     parts = parts_in f needs;
     printed = printed_there;
     needed = needs_there;
-    corresponds = correspondence needs h printed_there.chain needs_there.each;
     certificates = certified (has_two_levels found.by w) refl;
-    closed = lightest_there.closed;
     lightest = lightest_in;
     shows = given_is;
     sound = given_sound i h found f p needs n;
