@@ -8,8 +8,8 @@ use sm_rotations::chain_with_needs;
 use sm_seats::Seats;
 use std::alloc::{AllocError, Global};
 
-/// What all commands but `solve` and `reduced` stand on: the poset of the market of an instance's seats, which keeps the
-/// market, the proposers' best matching and the chain.
+/// What the commands that need rotations stand on: the poset of the market of an instance's seats, which keeps the market, the
+/// proposers' best matching and the chain.
 #[derive(Drop)]
 pub struct Basis {
     /// The poset of the market of seats.

@@ -18,11 +18,6 @@ use Rattle.sm_answer_vectors.specs.VectorAnswer.{last_line, vector_lines, IsVect
 use Rattle.sm_answer_vectors.specs.Stepping.{HaveNext}
 use Rattle.sm_answer_vectors.specs.Remaining.{IsLeftOf}
 
--- what follows from a result follows from it in each answer
-pub if_ok : {A E : Type 0} {P Q : A → Type 0} (r : Result A E) → ((x : A) → P x → Q x) → IfOk r P → IfOk r Q
-if_ok (Ok x) f p = f x p
-if_ok (Err e) f p = tt
-
 -- The lines are those of an input.
 
 -- what holds of each vector of a listing

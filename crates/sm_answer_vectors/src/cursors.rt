@@ -7,7 +7,7 @@ ghost use Rattle.sm_answer_vectors.specs.VectorAnswer.{cursor_in};
 
 use std::alloc::{AllocError, AllocFailed, Global};
 
-/// A copy of a vector, if there is one.
+/// A copy of a vector, if there is one. Takes time and memory in proportion to it.
 ///
 /// # Errors
 ///
@@ -25,7 +25,11 @@ pub fn copy_of_cursor(
     }
 }
 
-/// A copy of numbers, all of which have 32 bits.
+/// A copy of numbers, all of which have 32 bits. Takes time and memory in proportion to them.
+///
+/// # Errors
+///
+/// `AllocError` where memory ran out, and only then.
 pub fn small_copy(alloc: Global, numbers: &[u32]) -> Result<Vec<u32>, AllocError>
     ensures copied { IfOk result (λ copy. copy.items ≡ numbers.now) }
     ensures small { IfOk result (λ copy. All IsSmall copy.items) }

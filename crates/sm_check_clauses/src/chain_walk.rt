@@ -80,7 +80,7 @@ impl ChainWalk {
     ///
     /// # Errors
     ///
-    /// `AllocError` where memory ran out, and only then.
+    /// `AllocError` where memory ran out, and only then; nothing is said of what is kept then.
     pub fn find_fault(
         &mut self,
         alloc: Global,

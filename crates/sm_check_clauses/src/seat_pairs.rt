@@ -19,7 +19,11 @@ pub struct SeatPairs {
 }
 
 impl SeatPairs {
-    /// No pair so far.
+    /// No pair so far. Takes time and memory in proportion to the agents of the market.
+    ///
+    /// # Errors
+    ///
+    /// `AllocError` where memory ran out, and only then.
     pub fn none(alloc: Global, market: &Market) -> Result<SeatPairs, AllocError>
         ensures { IfOk result (λ pairs. AreSeatPairs market.now [] pairs) }
     {
@@ -29,7 +33,7 @@ impl SeatPairs {
         })
     }
 
-    /// Whether a pair may stand behind those that are kept. It is kept too then. Looks through the proposer's list.
+    /// Whether a pair may stand behind those that are kept. It is kept too then. Takes time in the length of the proposer's list.
     pub fn add(&mut self, market: &Market, p: u32, seat: u32) -> bool
         requires proposer { p < length market.now.proposers }
         requires seat { seat < length market.now.reviewers }

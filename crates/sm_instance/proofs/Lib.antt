@@ -7,6 +7,7 @@ pub mod LoadLemmas
 pub mod ItemLemmas
 pub mod OrderLemmas
 pub mod SecondLemmas
+pub mod NonzeroLemmas
 pub mod FaultLemmas
 pub mod AcceptLemmas
 pub mod BreachLemmas

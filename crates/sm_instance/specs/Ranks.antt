@@ -1,6 +1,6 @@
 -- Rank vectors and their order, and what a matching is worth: its regret and its weight. Ranks are written places counted
 -- from 1.
-use Rattle.std.specs.Prelude.{◌≢◌, ℕ, ◌+◌, ◌<◌, slice_index_or, max, List, length, map, fold, Option, Some, None, ℤ, pos, ◌+ℤ◌}
+use Rattle.std.specs.Prelude.{◌≢◌, ℕ, zero, suc, ◌+◌, ◌<◌, slice_index_or, max, Bool, true, false, List, length, map, fold, Option, Some, None, ℤ, pos, negsuc, ◌+ℤ◌}
 use Rattle.std.specs.List.{range_with_len}
 -- the order of rank vectors, in which the proposers are compared in a given order
 pub use Rattle.sm_lists.specs.Orders.{IsBefore}
@@ -40,6 +40,12 @@ pair_weight Given w p (Some i) = given_weight w p (entry w.proposers p i)
 -- the sum over the matched pairs, of the given weights or of both ranks (Gusfield and Irving 1989, section 3.6)
 abbrev pub weight_of : Measure → Written → List (Option ℕ) → ℤ
 weight_of by w places = fold ◌+ℤ◌ (pos 0) (map (λ p. pair_weight by w p (held places p)) (range_with_len 0 (length w.proposers)))
+
+-- a number is 0
+abbrev pub is_zero : ℤ → Bool
+is_zero (pos zero) = true
+is_zero (pos (suc n)) = false
+is_zero (negsuc n) = false
 
 -- one of these numbers isn't 0
 pub record HasNonzero (numbers : List ℤ) : Type 0 where

@@ -24,8 +24,8 @@ use Rattle.sm_instance.specs.Sound.{IsInstance, AreSoundAgents, AreSoundEntries,
 use Rattle.sm_instance.specs.Named.{SaidPair, SaidWeight, SaidOrder}
 use Rattle.sm_instance.specs.declared.kinds.Kind.{Kind}
 use Rattle.sm_json.specs.Parts.{has_capacities}
-use Rattle.sm_printed.specs.Printed.{is_zero}
-use Rattle.sm_printed.proofs.FormatLemmas.{zero_is}
+use Rattle.sm_instance.specs.Ranks.{is_zero}
+use Rattle.sm_instance.proofs.NonzeroLemmas.{zero_is}
 use Rattle.sm_printed.proofs.ItemLemmas.{weight_there, force_there, forbid_there}
 use Rattle.sm_instance.specs.declared.inputs.Input.TheVariants.{Two}
 use Rattle.sm_printed.specs.Names.{name_of, said_agent, said_pair, said_weight, said_of}

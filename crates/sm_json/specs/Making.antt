@@ -11,7 +11,7 @@ use Rattle.sm_instance.specs.declared.inputs.Input.{Input}
 use Rattle.sm_instance.specs.declared.kinds.Kind.{Kind}
 use Rattle.sm_instance.specs.declared.kinds.Kind.TheVariants.{Marriage, Hospitals, Roommates}
 use Rattle.sm_printed.specs.Names.{name_of, said_agent, said_pair, said_weight, said_of}
-use Rattle.sm_printed.specs.Printed.{is_zero}
+use Rattle.sm_instance.specs.Ranks.{is_zero}
 use Rattle.sm_json.specs.Parts.{has_capacities}
 
 -- an array of what some items give

@@ -36,8 +36,7 @@ pub fn cut_enough<'a>(line: &'a [u8], into: &mut Vec<&'a [u8]>) -> Result<Found,
     if line.len() > LONG {
         return cut_long(line, into);
     }
-    let found = cut(line, into)?;
-    Ok(found)
+    cut(line, into)
 }
 
 /// The same for a long line. Never inlined, so that others pay nothing for it.

@@ -74,7 +74,8 @@ impl Gates {
         );
     }
 
-    /// Shuts the stays too whose ranks are above a bound. Takes time in proportion to the stays of matched proposers.
+    /// Shuts the stays too whose ranks are above a bound. Takes time in proportion to the proposers and to the stays of those that
+    /// are matched.
     pub(crate) fn shut_above(&mut self, board: &Board, ranks: &Rows, bound: u32)
         requires board { IsBoard board.now }
         requires few { length board.now.leaves < 2 ^ 32 }

@@ -14,6 +14,11 @@ pub cond-and_false : (b : Bool) (x y : ℕ) → cond (b && false) x y ≡ y
 cond-and_false true x y = refl
 cond-and_false false x y = refl
 
+-- what follows from a property of a success holds of it
+pub IfOk-more : {X E : Type 0} (r : Result X E) (P Q : X → Type 0) → ((x : X) → P x → Q x) → IfOk r P → IfOk r Q
+IfOk-more (Ok x) P Q f p = f x p
+IfOk-more (Err e) P Q f p = tt
+
 -- what follows from two facts on the value of a result
 pub IfOk-both : {X E : Type 0} (r : Result X E) (P Q R : X → Type 0) → ((x : X) → P x → Q x → R x) → IfOk r P → IfOk r Q → IfOk r R
 IfOk-both (Ok x) P Q R f p q = f x p q

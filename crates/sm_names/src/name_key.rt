@@ -4,6 +4,7 @@ ghost use Rattle.std.specs.Prelude.{◌≡◌, ◌∷◌, [], nat_eq, IfOk};
 ghost use Rattle.std.specs.Cmp.{partial_equiv_from_equiv, on_per, on_equiv};
 ghost use Rattle.std.specs.Cmp.Lexicographic.{pointwise, bytes_decides, nat_list_eq_equiv};
 ghost use Rattle.std.specs.Cmp.Rules.{hashing};
+ghost use Rattle.std.specs.Str.{bytes_eq};
 ghost use Rattle.std.proofs.Common.{rules, ap};
 ghost use Rattle.sm_names.specs.Keys.{text_of, name_of};
 
@@ -26,6 +27,13 @@ impl NameKey {
     {
         let text = SmallVec::from_slice(alloc, name)?;
         Ok(NameKey { text })
+    }
+
+    /// Is it this name?
+    pub(crate) fn is(&self, name: &[u8]) -> bool
+        ensures { result ≡ bytes_eq name.now (text_of self.now) }
+    {
+        name == self.text.as_slice()
     }
 }
 

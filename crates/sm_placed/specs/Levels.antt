@@ -1,18 +1,12 @@
 -- The second weights of the places of seats, and whether an answer has two levels of weights.
-use Rattle.std.specs.Prelude.{ℕ, zero, suc, not, Bool, true, false, List, Option, ℤ, pos, negsuc}
+use Rattle.std.specs.Prelude.{ℕ, not, Bool, false, List, Option, ℤ, pos}
 use Rattle.std.specs.List.{list_any}
 use Rattle.sm_instance.specs.Written.{Written}
-use Rattle.sm_instance.specs.Ranks.{pair_second}
+use Rattle.sm_instance.specs.Ranks.{is_zero, pair_second}
 use Rattle.sm_instance.specs.declared.kinds.Measure.{Measure}
 use Rattle.sm_instance.specs.declared.kinds.Measure.TheVariants.{Ranks, Given}
 use Rattle.sm_seats.specs.Seating.{Seating}
 use Rattle.sm_seats.specs.Correspondence.{weights_by}
-
--- a weight is 0
-abbrev pub is_zero : ℤ → Bool
-is_zero (pos zero) = true
-is_zero (pos (suc n)) = false
-is_zero (negsuc n) = false
 
 -- an answer of `weight` has two levels where it is by given weights and a pair has a second weight that isn't 0
 abbrev pub has_two_levels : Measure → Written → Bool

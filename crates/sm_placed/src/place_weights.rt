@@ -44,8 +44,8 @@ pub fn weights_of_places(
     }
 }
 
-/// The same by second weights, which are all 0 where places are weighed by ranks. Nothing is looked up where
-/// [`has_two_levels`] says no.
+/// The same by second weights, which are all 0 where places are weighed by ranks. Takes time and memory in proportion to the places,
+/// and a look-up for each where [`has_two_levels`] says yes.
 ///
 /// # Errors
 ///
@@ -162,9 +162,10 @@ fn ranks_at(
     let places = seats.market().proposer_len(p);
     let written = instance.proposer_len(p);
     let crosses = instance.proposer_crosses(p);
+    let placed = &levels[..places as usize];
     let mut weights = Vec::with_capacity(alloc, places as usize)?;
     for i in 0..places {
-        let level = levels[i as usize];
+        let level = placed[i as usize];
         let back = rank_in(crosses[level as usize - 1]);
         weights.push(i64::from(level + back))?;
     }

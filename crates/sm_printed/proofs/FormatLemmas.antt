@@ -9,12 +9,13 @@ use Rattle.std.proofs.lemmas.List.FromFn.{fill_by_all, get_or-range_with_len}
 use Rattle.std.proofs.lemmas.Slice.Eq.{bytes_eq-Decides}
 use Rattle.sm_instance.specs.Written.{Written}
 use Rattle.sm_instance.specs.Sound.{IsInstance}
-use Rattle.sm_instance.specs.Ranks.{HasNonzero, HasSeconds}
+use Rattle.sm_instance.specs.Ranks.{is_zero, HasSeconds}
 use Rattle.sm_instance.specs.Named.{SaidWeight}
 use Rattle.sm_instance.specs.declared.inputs.Input.TheVariants.{Two}
 use Rattle.sm_instance.proofs.OrderLemmas.{each_once_long}
+use Rattle.sm_instance.proofs.NonzeroLemmas.{zero_is, any_is}
 use Rattle.sm_printed.specs.Names.{said_weight, said_of}
-use Rattle.sm_printed.specs.Printed.{is_zero, second_text, format_of}
+use Rattle.sm_printed.specs.Printed.{second_text, format_of}
 
 -- numbers that hold their places are the first ones
 pub counted_is : (numbers : List ℕ) → ((k : ℕ) → k < length numbers → get_or numbers k 0 ≡ k) → pointwise nat_eq numbers (range_with_len 0 (length numbers)) ≡ true
@@ -39,56 +40,12 @@ own_order w sound order t are is =
     some_unless true x = refl
     some_unless false x = refl
 
--- a number is 0 or it isn't
-pub zero_is : (z : ℤ) → is_zero z ≡ true → z ≡ pos 0
-zero_is (pos zero) h = refl
-zero_is (pos (suc n)) h = absurd (false≢true h)
-zero_is (negsuc n) h = absurd (false≢true h)
-
-pub zero_not : (z : ℤ) → is_zero z ≡ false → z ≢ pos 0
-zero_not (pos zero) h same = false≢true (sym h)
-zero_not (pos (suc n)) h same = absurd cc
-zero_not (negsuc n) h same = absurd cc
-
 -- the text of a second weight that isn't 0
 pub second_written : (z : ℤ) → z ≢ pos 0 → codes " " ++ signed_decimal z ≡ second_text z
 second_written z isnt = by_test (is_zero z) refl
   where
     by_test : (t : Bool) → is_zero z ≡ t → codes " " ++ signed_decimal z ≡ cond t [] (codes " " ++ signed_decimal z)
     by_test true e = absurd (isnt (zero_is z e))
-    by_test false e = refl
-
--- whether one of some numbers isn't 0
-abbrev any_nonzero : List ℤ → Bool
-any_nonzero zs = list_any (λ z. not (is_zero z)) zs
-
-nonzero_at : (zs : List ℤ) → any_nonzero zs ≡ true → HasNonzero zs
-nonzero_at [] h = absurd (false≢true h)
-nonzero_at (z ∷ zs) h = by_test (is_zero z) refl h (nonzero_at zs)
-  where
-    by_test : (t : Bool) → is_zero z ≡ t → (not t || any_nonzero zs) ≡ true → (any_nonzero zs ≡ true → HasNonzero zs) → HasNonzero (z ∷ zs)
-    by_test true e h later = let m = later h in record { at = suc m.at; there = let l = m.there in omega (arith, l); isnt = m.isnt }
-    by_test false e h later = record { at = 0; there = omega arith; isnt = zero_not z e }
-
-nonzero_any : (zs : List ℤ) (k : ℕ) → k < length zs → get_or zs k (pos 0) ≢ pos 0 → any_nonzero zs ≡ true
-nonzero_any [] k below isnt = absurd (omega arith)
-nonzero_any (z ∷ zs) zero below isnt = by_test (is_zero z) refl
-  where
-    by_test : (t : Bool) → is_zero z ≡ t → (not t || any_nonzero zs) ≡ true
-    by_test true e = absurd (isnt (zero_is z e))
-    by_test false e = refl
-nonzero_any (z ∷ zs) (suc k) below isnt = behind (not (is_zero z)) (nonzero_any zs k (omega arith) isnt)
-  where
-    behind : (t : Bool) → any_nonzero zs ≡ true → (t || any_nonzero zs) ≡ true
-    behind true later = refl
-    behind false later = later
-
-same_test : (zs : List ℤ) (s : Bool) → (IsTrue s ↔ HasNonzero zs) → s ≡ any_nonzero zs
-same_test zs true iff = let m = iff.0 refl in sym (nonzero_any zs m.at m.there m.isnt)
-same_test zs false iff = by_test (any_nonzero zs) refl
-  where
-    by_test : (t : Bool) → any_nonzero zs ≡ t → false ≡ t
-    by_test true e = iff.1 (nonzero_at zs e)
     by_test false e = refl
 
 -- a second weight that isn't 0 is said
@@ -113,5 +70,5 @@ module _ (w : Written) where
   -- the format of any other, by whether it has second weights
   pub format_is : IsInstance w → (own seconds : Bool) → own ≡ is_some (said_of (Two w)).order → (IsTrue seconds ↔ HasSeconds w) → cond (own || seconds) 2 1 ≡ format_of (said_of (Two w))
   format_is sound own seconds is iff =
-      ap (λ s. cond (own || s) 2 1) (same_test w.seconds seconds iff ∙ sym (second_weights_said sound.seconds_each))
+      ap (λ s. cond (own || s) 2 1) (any_is w.seconds seconds iff ∙ sym (second_weights_said sound.seconds_each))
       ∙ ap (λ t. cond (t || list_any has_second (said_of (Two w)).weights) 2 1) is

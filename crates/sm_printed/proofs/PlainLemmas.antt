@@ -22,7 +22,8 @@ use Rattle.sm_report.specs.Fields.{spaced}
 use Rattle.sm_report.proofs.InverseLemmas.{by_answer}
 use Rattle.sm_report.proofs.FreeLines.{name_plain, number_plain, signed_plain, both_plain}
 use Rattle.sm_printed.specs.Names.{name_of, said_agent, said_pair, said_weight, said_of}
-use Rattle.sm_printed.specs.Printed.{is_zero, format_of, kind_word, second_text, order_lines, header_line, list_text, capacity_text, proposer_line, reviewer_line, pair_text, weight_line, force_line, forbid_line, item_lines, agent_lines, lines_of}
+use Rattle.sm_instance.specs.Ranks.{is_zero}
+use Rattle.sm_printed.specs.Printed.{format_of, kind_word, second_text, order_lines, header_line, list_text, capacity_text, proposer_line, reviewer_line, pair_text, weight_line, force_line, forbid_line, item_lines, agent_lines, lines_of}
 
 -- a text that stands for itself there
 abbrev pub IsPlain : List ℕ → Type 0

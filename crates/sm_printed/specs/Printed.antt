@@ -1,21 +1,16 @@
 -- The lines of a printed instance, of what it says by names. One space stands between two tokens, but none before `:`, `[`
 -- and `]`.
-use Rattle.std.specs.Prelude.{ℕ, zero, suc, ◌||◌, Bool, true, false, not, if◌then◌else◌, List, [], ◌∷◌, ◌++◌, map, Option, Some, None, is_some, codes, decimal, ℤ, pos, negsuc}
+use Rattle.std.specs.Prelude.{ℕ, ◌||◌, not, if◌then◌else◌, List, [], ◌∷◌, ◌++◌, map, Option, Some, None, is_some, codes, decimal, ℤ}
 use Rattle.std.specs.List.{list_any}
 use Rattle.std.specs.Fmt.{signed_decimal}
 use Rattle.sm_instance.specs.Named.{SaidAgent, SaidPair, SaidWeight, SaidOrder, Said}
 use Rattle.sm_instance.specs.declared.kinds.Kind.{Kind}
 use Rattle.sm_instance.specs.declared.kinds.Kind.TheVariants.{Marriage, Hospitals, Roommates}
 use Rattle.sm_instance.specs.Inputs.{kind_of}
+use Rattle.sm_instance.specs.Ranks.{is_zero}
 use Rattle.sm_instance.specs.declared.inputs.Input.{Input}
 use Rattle.sm_report.specs.Fields.{spaced}
 use Rattle.sm_printed.specs.Names.{said_of}
-
--- a number is 0
-abbrev pub is_zero : ℤ → Bool
-is_zero (pos zero) = true
-is_zero (pos (suc n)) = false
-is_zero (negsuc n) = false
 
 -- the format that is needed: 2 where the proposers have an order of their own or a pair has a second weight
 abbrev pub format_of : Said → ℕ

@@ -1,6 +1,5 @@
 -- What the steps of `needs` read and write.
-use Rattle.std.proofs.Common.{◌≡◌, ℕ, suc, ◌+◌, ◌<◌, arith, sym, ap, ◌∙◌, List, [], Result, Ok, Err, length, get_or}
-use Rattle.std.specs.Result.{IfOk}
+use Rattle.std.proofs.Common.{◌≡◌, ℕ, suc, ◌+◌, ◌<◌, arith, sym, ap, ◌∙◌, List, [], length, get_or}
 use Rattle.std.proofs.lemmas.List.{get_or-map, length-map}
 use Rattle.sm_market.specs.Lists.{Lists}
 use Rattle.sm_market.specs.Matching.{Places}
@@ -28,8 +27,3 @@ module _ {l : Lists} {first m : Places} {rotations : List (List (ℕ × ℕ))} (
   -- and eliminating it leads to the next stage
   pub next_stage : {n : Places} (pairs : List (ℕ × ℕ)) → pairs ≡ rotation_at rotations j → n ≡ eliminated l m pairs → n ≡ stage l first rotations (j + 1)
   next_stage pairs e n_is = let same : j + 1 ≡ suc j = omega arith in rw same (n_is ∙ ap (λ m. eliminated l m pairs) is ∙ ap (eliminated l (stage l first rotations j)) e)
-
--- what follows from a property of a success holds of it
-pub IfOk-more : {X E : Type 0} (r : Result X E) (P Q : X → Type 0) → ((x : X) → P x → Q x) → IfOk r P → IfOk r Q
-IfOk-more (Ok x) P Q f p = f x p
-IfOk-more (Err e) P Q f p = tt

@@ -1,6 +1,6 @@
 //! Instances and persons: each fault once, and what assignments of three residents are worth.
 
-ghost use Rattle.std.specs.Prelude.{◌<◌, length};
+ghost use Rattle.std.specs.Prelude.{◌≡◌, ◌<◌, length};
 ghost use Rattle.sm_instance.specs.Matching.{IsMatching};
 ghost use Rattle.sm_pairs.specs.Holding.{IsHolding};
 
@@ -46,45 +46,79 @@ struct Row {
     allowed: bool,
 }
 
-fn is_worth(rt: &impl Abort, instance: &Instance, a: &Assignment, row: &Row)
+/// Makes sure that there are three residents and three hospitals.
+fn has_three_each(rt: &impl Abort, instance: &Instance)
+    ensures proposers { length instance.now.proposers ≡ 3 }
+    ensures reviewers { length instance.now.reviewers ≡ 3 }
+{
+    assert!(rt; instance.proposer_count() == 3);
+    assert!(rt; instance.reviewer_count() == 3);
+}
+
+fn has_ranks(rt: &impl Abort, instance: &Instance, a: &Assignment, row: &Row)
     requires { IsMatching instance.now a.now.places.items }
 {
     let mut ranks = [0; 3];
     assert!(rt; instance.proposer_count() == 3);
     instance.rank_vector(a, &mut ranks);
     assert!(rt; ranks == row.ranks);
-    assert!(rt; instance.first_blocking(a) == row.blocking);
-    assert!(rt; instance.reviewer_count() == 3);
-    assert!(rt; !instance.blocks(a, 1, 2));
     assert!(rt; instance.regret(a) == row.regret);
+}
+
+fn is_blocked(rt: &impl Abort, instance: &Instance, a: &Assignment, row: &Row)
+    requires { IsMatching instance.now a.now.places.items }
+{
+    assert!(rt; instance.first_blocking(a) == row.blocking);
+    has_three_each(rt, instance);
+    assert!(rt; !instance.blocks(a, 1, 2));
+}
+
+fn weighs(rt: &impl Abort, instance: &Instance, a: &Assignment, row: &Row)
+    requires { IsMatching instance.now a.now.places.items }
+{
     assert!(rt; instance.weigh(a, Measure::Ranks) == row.weights.0);
     assert!(rt; instance.weigh(a, Measure::Given) == row.weights.1);
     assert!(rt; instance.weigh_second(a) == 0);
     assert!(rt; instance.allowed(a) == row.allowed);
 }
 
-fn are_worth(rt: &(impl Abort + AllocGlobal), instance: &Instance, rows: &[Row]) {
-    for row in rows {
-        let a = Assignment {
-            places: copy(rt, &row.places),
-        };
-        assert!(rt; instance.is_assignment(&a));
-        match instance.breach(&a) {
-            None => is_worth(rt, instance, &a, row),
-            Some(p) => assert!(rt; row.breach == Some(p)),
-        }
+fn matching_is_worth(rt: &impl Abort, instance: &Instance, a: &Assignment, row: &Row)
+    requires { IsMatching instance.now a.now.places.items }
+{
+    has_ranks(rt, instance, a, row);
+    is_blocked(rt, instance, a, row);
+    weighs(rt, instance, a, row);
+}
+
+fn is_worth(rt: &(impl Abort + AllocGlobal), instance: &Instance, row: &Row) {
+    let a = Assignment {
+        places: copy(rt, &row.places),
+    };
+    assert!(rt; instance.is_assignment(&a));
+    match instance.breach(&a) {
+        None => matching_is_worth(rt, instance, &a, row),
+        Some(p) => assert!(rt; row.breach == Some(p)),
     }
 }
 
-/// What resident c and the hospitals are to each other.
-fn knows_its_agents(rt: &impl Abort, instance: &Instance) {
-    assert!(rt; instance.proposer_count() == 3);
-    assert!(rt; instance.reviewer_count() == 3);
+/// What resident c and the first two hospitals are to each other.
+fn knows_its_pairs(rt: &impl Abort, instance: &Instance) {
+    has_three_each(rt, instance);
     assert!(rt; !instance.acceptable(2, 1));
     assert!(rt; instance.acceptable(2, 0));
     assert!(rt; instance.place(2, 1) == Some(1));
+}
+
+/// How long the list of resident c is, and that an entry is inert.
+fn knows_its_lists(rt: &impl Abort, instance: &Instance) {
+    has_three_each(rt, instance);
     assert!(rt; instance.proposer_len(2) == 2);
     assert!(rt; instance.cross(2, 1).is_none());
+}
+
+/// A weight and a capacity.
+fn knows_its_numbers(rt: &impl Abort, instance: &Instance) {
+    has_three_each(rt, instance);
     assert!(rt; instance.weight(2, 0) == -10);
     assert!(rt; instance.capacity(2) == 0);
 }
@@ -115,6 +149,18 @@ fn adds(
         panic!(rt; "the pair can't be held");
     }
     assert!(rt; !holding.add(instance, pair.0, pair.1));
+    blocks_first(rt, instance, holding, blocking);
+}
+
+/// Makes sure of the first pair that blocks what is held.
+fn blocks_first(
+    rt: &(impl Abort + AllocGlobal),
+    instance: &Instance,
+    holding: &Holding,
+    blocking: Option<(u32, u32)>,
+)
+    requires { IsHolding instance.now holding.now }
+{
     let found = holding
         .first_blocking(rt.alloc(), instance)
         .expect(rt, "memory");
@@ -124,8 +170,7 @@ fn adds(
 #[test]
 fn pairs_that_are_held_block(rt: HostRuntime) {
     let instance = small_hospitals(&rt);
-    assert!(rt; instance.proposer_count() == 3);
-    assert!(rt; instance.reviewer_count() == 3);
+    has_three_each(&rt, &instance);
     let mut holding = Holding::none(rt.alloc(), &instance).expect(&rt, "memory");
     adds(&rt, &instance, &mut holding, (2, 0), Some((0, 1)));
     adds(&rt, &instance, &mut holding, (0, 1), Some((1, 0)));
@@ -135,34 +180,43 @@ fn pairs_that_are_held_block(rt: HostRuntime) {
 #[test]
 fn small_hospitals_are_worth(rt: HostRuntime) {
     let instance = small_hospitals(&rt);
-    knows_its_agents(&rt, &instance);
-    are_worth(
-        &rt,
-        &instance,
-        &[
-            Row {
-                places: [Some(0), Some(1), Some(0)],
-                breach: None,
-                blocking: None,
-                ranks: [1, 2, 1],
-                regret: 3,
-                weights: (9, -10),
-                allowed: false,
-            },
-            Row {
-                places: [Some(1), None, Some(0)],
-                breach: None,
-                blocking: Some((0, 1)),
-                ranks: [2, 3, 1],
-                regret: 2,
-                weights: (6, -6),
-                allowed: true,
-            },
-        ],
-    );
+    knows_its_pairs(&rt, &instance);
+    knows_its_lists(&rt, &instance);
+    knows_its_numbers(&rt, &instance);
+    are_worth(&rt, &instance);
     breaks(&rt, &instance, &[None, None, Some(1)], 2);
     breaks(&rt, &instance, &[Some(1), Some(1), Some(0)], 2);
     breaks(&rt, &instance, &[None, Some(0), None], 1);
+}
+
+/// What a stable matching and another one are worth.
+fn are_worth(rt: &(impl Abort + AllocGlobal), instance: &Instance) {
+    is_worth(
+        rt,
+        instance,
+        &Row {
+            places: [Some(0), Some(1), Some(0)],
+            breach: None,
+            blocking: None,
+            ranks: [1, 2, 1],
+            regret: 3,
+            weights: (9, -10),
+            allowed: false,
+        },
+    );
+    is_worth(
+        rt,
+        instance,
+        &Row {
+            places: [Some(1), None, Some(0)],
+            breach: None,
+            blocking: Some((0, 1)),
+            ranks: [2, 3, 1],
+            regret: 2,
+            weights: (6, -6),
+            allowed: true,
+        },
+    );
 }
 
 /// A proposer m and the hospitals a and another: what may be wrong with them.
@@ -204,90 +258,97 @@ fn fault_of(rt: &(impl Abort + AllocGlobal), case: &Case) -> Option<InstanceFaul
     .err()
 }
 
-fn have_faults(rt: &(impl Abort + AllocGlobal), cases: &[(Case, Option<InstanceFault>)]) {
-    for (case, fault) in cases {
-        assert!(rt; fault_of(rt, case) == *fault);
-    }
+/// Makes sure what is wrong.
+fn has_fault(rt: &(impl Abort + AllocGlobal), case: Case, fault: InstanceFault) {
+    assert!(rt; fault_of(rt, &case) == Some(fault));
 }
 
 #[test]
 fn each_fault_once(rt: HostRuntime) {
+    assert!(rt; fault_of(&rt, &SOUND).is_none());
+    agents_have_faults(&rt);
+    entries_have_faults(&rt);
+    pairs_have_faults(&rt);
+}
+
+fn agents_have_faults(rt: &(impl Abort + AllocGlobal)) {
+    let twice = Case {
+        letter: b'a',
+        ..SOUND
+    };
+    has_fault(rt, twice, InstanceFault::BadAgent(Side::Reviewers, 1));
+    let too_large = Case {
+        capacity: 4_097,
+        ..SOUND
+    };
+    has_fault(rt, too_large, InstanceFault::BadAgent(Side::Reviewers, 0));
+}
+
+fn entries_have_faults(rt: &(impl Abort + AllocGlobal)) {
     let bad_entry = InstanceFault::BadEntry(Side::Proposers, 0, 1);
-    have_faults(
-        &rt,
-        &[
-            (SOUND, None),
-            (
-                Case {
-                    letter: b'a',
-                    ..SOUND
-                },
-                Some(InstanceFault::BadAgent(Side::Reviewers, 1)),
-            ),
-            (
-                Case {
-                    capacity: 4_097,
-                    ..SOUND
-                },
-                Some(InstanceFault::BadAgent(Side::Reviewers, 0)),
-            ),
-            (
-                Case {
-                    list: [0, 0],
-                    ..SOUND
-                },
-                Some(bad_entry),
-            ),
-            (
-                Case {
-                    list: [0, 2],
-                    ..SOUND
-                },
-                Some(bad_entry),
-            ),
-            (
-                Case { back: 1, ..SOUND },
-                Some(InstanceFault::BadEntry(Side::Reviewers, 0, 0)),
-            ),
-            (
-                Case {
-                    weight: (0, 0, 2),
-                    ..SOUND
-                },
-                Some(InstanceFault::BadPair(1)),
-            ),
-            (
-                Case {
-                    weight: (0, 1, 1_000_000_001),
-                    ..SOUND
-                },
-                Some(InstanceFault::BadPair(1)),
-            ),
-            (
-                Case {
-                    forbidden: (0, 2),
-                    ..SOUND
-                },
-                Some(InstanceFault::BadPair(3)),
-            ),
-        ],
-    );
+    let twice = Case {
+        list: [0, 0],
+        ..SOUND
+    };
+    has_fault(rt, twice, bad_entry);
+    let unknown = Case {
+        list: [0, 2],
+        ..SOUND
+    };
+    has_fault(rt, unknown, bad_entry);
+    let back = Case { back: 1, ..SOUND };
+    has_fault(rt, back, InstanceFault::BadEntry(Side::Reviewers, 0, 0));
+}
+
+fn pairs_have_faults(rt: &(impl Abort + AllocGlobal)) {
+    let twice = Case {
+        weight: (0, 0, 2),
+        ..SOUND
+    };
+    has_fault(rt, twice, InstanceFault::BadPair(1));
+    let too_heavy = Case {
+        weight: (0, 1, 1_000_000_001),
+        ..SOUND
+    };
+    has_fault(rt, too_heavy, InstanceFault::BadPair(1));
+    let unknown = Case {
+        forbidden: (0, 2),
+        ..SOUND
+    };
+    has_fault(rt, unknown, InstanceFault::BadPair(3));
 }
 
 #[test]
 fn an_order_and_second_weights(rt: HostRuntime) {
     let mut instance = small_hospitals(&rt);
+    is_reordered(&rt, &mut instance);
+    has_second_weights(&rt, &mut instance);
+}
+
+/// Makes sure that this is no order of the residents.
+fn is_no_order(rt: &impl Abort, instance: &mut Instance, order: &[u32]) {
+    assert!(rt; instance.reorder(order).err() == Some(InstanceFault::BadOrder));
+}
+
+fn is_reordered(rt: &impl Abort, instance: &mut Instance) {
     assert!(rt; instance.order() == [0, 1, 2].as_slice());
-    assert!(rt; instance.reorder(&[2, 0]).err() == Some(InstanceFault::BadOrder));
-    assert!(rt; instance.reorder(&[2, 0, 2]).err() == Some(InstanceFault::BadOrder));
-    instance.reorder(&[2, 0, 1]).expect(&rt, "an order");
+    is_no_order(rt, instance, &[2, 0]);
+    is_no_order(rt, instance, &[2, 0, 2]);
+    instance.reorder(&[2, 0, 1]).expect(rt, "an order");
     assert!(rt; instance.order() == [2, 0, 1].as_slice());
+}
+
+fn has_second_weights(rt: &(impl Abort + AllocGlobal), instance: &mut Instance) {
     assert!(rt; !instance.has_seconds());
-    let unweighed = instance.add_seconds(copy(&rt, &[(0, 1, 5)])).err();
+    let unweighed = instance.add_seconds(copy(rt, &[(0, 1, 5)])).err();
     assert!(rt; unweighed == Some(InstanceFault::BadPair(0)));
     instance
-        .add_seconds(copy(&rt, &[(2, 0, 7)]))
-        .expect(&rt, "second weights");
+        .add_seconds(copy(rt, &[(2, 0, 7)]))
+        .expect(rt, "second weights");
+    knows_second_weights(rt, instance);
+}
+
+fn knows_second_weights(rt: &impl Abort, instance: &Instance) {
     assert!(rt; instance.has_seconds());
     assert!(rt; instance.second(2, 0) == 7);
     assert!(rt; instance.second(0, 0) == 0);
@@ -309,12 +370,20 @@ fn finds(rt: &impl Abort, input: &Input, name: &[u8], left: Option<u32>, right: 
 fn agents_are_found_by_name(rt: HostRuntime) {
     let twice = persons(&rt, b'x').err();
     assert!(rt; twice == Some(InstanceFault::BadAgent(Side::Proposers, 1)));
-    let input = Input::Room(persons(&rt, b'y').expect(&rt, "persons"));
+    persons_are_found(&rt);
+    hospitals_are_found(&rt);
+}
+
+fn persons_are_found(rt: &(impl Abort + AllocGlobal)) {
+    let input = Input::Room(persons(rt, b'y').expect(rt, "persons"));
     assert!(rt; input.kind() == Kind::Roommates);
-    finds(&rt, &input, b"y", Some(1), Some(1));
-    finds(&rt, &input, b"z", None, None);
-    let input = Input::Two(small_hospitals(&rt));
+    finds(rt, &input, b"y", Some(1), Some(1));
+    finds(rt, &input, b"z", None, None);
+}
+
+fn hospitals_are_found(rt: &(impl Abort + AllocGlobal)) {
+    let input = Input::Two(small_hospitals(rt));
     assert!(rt; input.kind() == Kind::Hospitals);
-    finds(&rt, &input, b"c", Some(2), None);
-    finds(&rt, &input, b"h", None, Some(0));
+    finds(rt, &input, b"c", Some(2), None);
+    finds(rt, &input, b"h", None, Some(0));
 }

@@ -2,29 +2,43 @@
 
 use crate::made::MEMORY;
 use sm_keys::{Key, Recent};
+use std::process::Abort;
+
+/// Makes sure that a name has this key.
+fn has_key(rt: &impl Abort, name: &[u8], key: Key<'_>) {
+    assert!(rt; Key::of(name) == key);
+}
+
+/// Makes sure that two names have keys of their own.
+fn differ(rt: &impl Abort, a: &[u8], b: &[u8]) {
+    assert!(rt; Key::of(a) != Key::of(b));
+}
 
 #[test]
 fn keys_are_the_same_where_names_are(rt: HostRuntime) {
-    assert!(rt; Key::of(b"w12") == Key::two_to_four(b"w12"));
-    assert!(rt; Key::of(b"w12") != Key::of(b"w112"));
-    assert!(rt; Key::of(b"hospital") == Key::five_to_eight(b"hospital"));
-    assert!(rt; Key::of(b"hospital") != Key::of(b"hospitaL"));
-    assert!(rt; Key::of(b"eleven_byte") == Key::of(b"eleven_byte"));
-    assert!(rt; Key::of(b"eleven_byte") != Key::of(b"eleven_bytE"));
-    assert!(rt; Key::of(b"w") != Key::of(b"m"));
+    has_key(&rt, b"w12", Key::two_to_four(b"w12"));
+    differ(&rt, b"w12", b"w112");
+    has_key(&rt, b"hospital", Key::five_to_eight(b"hospital"));
+    differ(&rt, b"hospital", b"hospitaL");
+    has_key(&rt, b"eleven_byte", Key::of(b"eleven_byte"));
+    differ(&rt, b"eleven_byte", b"eleven_bytE");
+    differ(&rt, b"w", b"m");
+}
+
+/// Notes an index of the name of this key, and makes sure which one is guessed then.
+fn note(rt: &impl Abort, recent: &mut Recent, key: Key<'_>, index: u32, guess: u32) {
+    recent
+        .note(key.word, key.text.len(), index)
+        .expect(rt, MEMORY);
+    assert!(rt; recent.guess(key.word, key.text.len()) == guess);
 }
 
 #[test]
 fn two_indexes_are_guessed(rt: HostRuntime) {
     let mut recent = Recent::new(rt.alloc()).expect(&rt, MEMORY);
     let key = Key::of(b"w12");
-    recent.note(key.word, key.text.len(), 7).expect(&rt, MEMORY);
-    assert!(rt; recent.guess(key.word, key.text.len()) == 7);
-    recent.note(key.word, key.text.len(), 9).expect(&rt, MEMORY);
-    assert!(rt; recent.guess(key.word, key.text.len()) == 9);
+    note(&rt, &mut recent, key, 7, 7);
+    note(&rt, &mut recent, key, 9, 9);
     assert!(rt; recent.second_guess(key.word, key.text.len()) == 7);
-    recent
-        .note(key.word, key.text.len(), 65_536)
-        .expect(&rt, MEMORY);
-    assert!(rt; recent.guess(key.word, key.text.len()) == 9);
+    note(&rt, &mut recent, key, 65_536, 9);
 }

@@ -55,27 +55,29 @@ fn puts(rt: &(impl Abort + AllocGlobal), input: &Input, line: &Line, text: &str)
 #[test]
 fn lines_are_put(rt: HostRuntime) {
     let input = hospitals(&rt);
-    assert!(rt; left_count(&input) == 1);
-    assert!(rt; right_count(&input) == 1);
-    let head = Head::Solve(Some(Side::Proposers));
-    puts(
-        &rt,
-        &input,
-        &Line::Answer(head),
-        "answer solve side=proposers\n",
-    );
+    puts_a_pair(&rt, &input);
+    puts_numbers(&rt, &input);
+}
+
+/// Puts a line that names two agents.
+fn puts_a_pair(rt: &(impl Abort + AllocGlobal), input: &Input) {
+    assert!(rt; left_count(input) == 1);
+    assert!(rt; right_count(input) == 1);
     let seat = Seat {
         reviewer: 0,
         number: 3,
     };
-    puts(&rt, &input, &Line::First(0, seat), "first a h/3\n");
-    puts(&rt, &input, &Line::Total(-10), "total -10\n");
-    puts(
-        &rt,
-        &input,
-        &Line::Vector(copy(&rt, &[1, 2])),
-        "vector 1,2\n",
-    );
+    puts(rt, input, &Line::First(0, seat), "first a h/3\n");
+}
+
+/// Puts lines that name none.
+fn puts_numbers(rt: &(impl Abort + AllocGlobal), input: &Input) {
+    let head = Head::Solve(Some(Side::Proposers));
+    let answer = Line::Answer(head);
+    puts(rt, input, &answer, "answer solve side=proposers\n");
+    puts(rt, input, &Line::Total(-10), "total -10\n");
+    let vector = Line::Vector(copy(rt, &[1, 2]));
+    puts(rt, input, &vector, "vector 1,2\n");
 }
 
 /// Makes sure that a line is read from a text and has it.

@@ -1,7 +1,7 @@
 //! A text that is read and texts that are refused. What texts mean stands in the witnesses of `sm_reader`.
 
 use sm_instance::{Input, Instance, Kind};
-use sm_reader::{TextFault, read_instance};
+use sm_reader::{Read, TextFault, read_instance};
 use sm_text::RefusalKind;
 use std::alloc::Global;
 use std::process::Abort;
@@ -14,16 +14,20 @@ fn refusal(alloc: Global, text: &[u8]) -> Option<(RefusalKind, u32)> {
     }
 }
 
+/// Makes sure why and at which line a text is refused.
+fn is_refused(rt: &(impl Abort + AllocGlobal), text: &[u8], kind: RefusalKind, line: u32) {
+    assert!(rt; refusal(rt.alloc(), text) == Some((kind, line)));
+}
+
 #[test]
 fn texts_are_refused(rt: HostRuntime) {
-    let header = refusal(rt.alloc(), b"\np a:\n");
-    assert!(rt; header == Some((RefusalKind::BadHeader, 2)));
-    let line = refusal(rt.alloc(), b"stable 1 marriage\np a: x x\n;\n");
-    assert!(rt; line == Some((RefusalKind::RepeatedEntry, 2)));
-    let end = refusal(rt.alloc(), b"stable 1 marriage\np a: x\n");
-    assert!(rt; end == Some((RefusalKind::MissingEnd, 3)));
-    let name = refusal(rt.alloc(), b"stable 1 roommates\np a: x\nend\n");
-    assert!(rt; name == Some((RefusalKind::UnknownName, 2)));
+    is_refused(&rt, b"\np a:\n", RefusalKind::BadHeader, 2);
+    let repeated = b"stable 1 marriage\np a: x x\n;\n";
+    is_refused(&rt, repeated, RefusalKind::RepeatedEntry, 2);
+    let endless = b"stable 1 marriage\np a: x\n";
+    is_refused(&rt, endless, RefusalKind::MissingEnd, 3);
+    let unknown = b"stable 1 roommates\np a: x\nend\n";
+    is_refused(&rt, unknown, RefusalKind::UnknownName, 2);
 }
 
 #[test]
@@ -41,32 +45,42 @@ end
 ;;
 ";
     match read_instance(rt.alloc(), text) {
-        Ok(read) => {
-            assert!(rt; read.header_line == 2);
-            assert!(rt; read.rest == 107);
-            assert!(rt; read.rest_line == 11);
-            has_parts(&rt, &read.input);
-        }
+        Ok(read) => is_read(&rt, &read),
         Err(_fault) => panic!(rt; "refused"),
     }
 }
 
-/// The input is the instance of the text above.
+/// What is read has the header's line, the rest and the instance of the text above.
+fn is_read(rt: &impl Abort, read: &Read) {
+    assert!(rt; read.header_line == 2);
+    assert!(rt; read.rest == 107);
+    assert!(rt; read.rest_line == 11);
+    has_parts(rt, &read.input);
+}
+
+/// The input is that instance.
 fn has_parts(rt: &impl Abort, input: &Input) {
     assert!(rt; input.kind() == Kind::Hospitals);
     assert!(rt; input.find_left(b"m2") == Some(1));
     assert!(rt; input.find_right(b"m2").is_none());
     match input {
-        Input::Two(instance) => has_pairs(rt, instance),
+        Input::Two(instance) => {
+            has_pairs(rt, instance);
+            has_capacities(rt, instance);
+        }
         Input::Room(_) => panic!(rt; "persons"),
     }
 }
 
-/// So are the weights, the conditions and the capacities.
+/// So are the weights and the conditions.
 fn has_pairs(rt: &impl Abort, instance: &Instance) {
     assert!(rt; instance.weights() == [(0, 1, 7)].as_slice());
     assert!(rt; instance.forced() == [(1, 0)].as_slice());
     assert!(rt; instance.forbidden() == [(0, 0)].as_slice());
+}
+
+/// So are the capacities.
+fn has_capacities(rt: &impl Abort, instance: &Instance) {
     assert!(rt; instance.reviewer_count() == 2);
     assert!(rt; instance.capacity(0) == 2);
     assert!(rt; instance.capacity(1) == 1);

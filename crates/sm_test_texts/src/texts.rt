@@ -1,5 +1,7 @@
 //! Texts and lines: what they are stands in the witnesses of `sm_text`.
 
+ghost use Rattle.std.specs.Prelude.{◌≤◌, length};
+
 use crate::made::MEMORY;
 use sm_text::{
     LineSpan, LineWriter, RefusalKind, TokenAt, is_name, line_at, line_count, number, signed,
@@ -9,19 +11,31 @@ use std::process::Abort;
 
 #[test]
 fn texts_are_read(rt: HostRuntime) {
+    has_two_lines(&rt, b"ab\r\ncd\n");
+    assert!(rt; token_at(b"p m1:", 1) == TokenAt::Run(2, 4));
+    assert!(rt; is_name(b"m1"));
+    is_number(&rt, b"18446744073709551615", Some(u64::MAX));
+    is_number(&rt, b"18446744073709551616", None);
+    assert!(rt; signed(b"-9223372036854775807", i64::MAX) == Some(-i64::MAX));
+}
+
+/// Makes sure that a text has two lines, of which the second is two bytes from the fourth on.
+fn has_two_lines(rt: &impl Abort, text: &[u8])
+    requires { length text.now ≤ 8 }
+{
     let second = LineSpan {
         start: 4,
         stop: 6,
         next: 7,
     };
-    assert!(rt; line_at(b"ab\r\ncd\n", 4) == Some(second));
-    assert!(rt; line_at(b"ab\r\ncd\n", 7).is_none());
-    assert!(rt; line_count(b"ab\r\ncd\n") == 2);
-    assert!(rt; token_at(b"p m1:", 1) == TokenAt::Run(2, 4));
-    assert!(rt; is_name(b"m1"));
-    assert!(rt; number(b"18446744073709551615", u64::MAX) == Some(u64::MAX));
-    assert!(rt; number(b"18446744073709551616", u64::MAX).is_none());
-    assert!(rt; signed(b"-9223372036854775807", i64::MAX) == Some(-i64::MAX));
+    assert!(rt; line_at(text, 4) == Some(second));
+    assert!(rt; line_at(text, 7).is_none());
+    assert!(rt; line_count(text) == 2);
+}
+
+/// Makes sure which number is written.
+fn is_number(rt: &impl Abort, run: &[u8], value: Option<u64>) {
+    assert!(rt; number(run, u64::MAX) == value);
 }
 
 fn puts(rt: &impl Abort, line: &mut LineWriter, piece: &[u8], value: u64, signed: i64) {

@@ -23,11 +23,10 @@ fn are_name_bytes(run: &[u8]) -> bool
 }
 
 /// May a name begin with this byte: is it a letter, a digit or `_`? Takes constant time.
-#[tactic(auto, unfolding(crate::specs::Name::begins_name, crate::specs::Name::is_name_byte))]
 pub fn begins_name(b: u8) -> bool
     ensures { result ≡ begins_name b }
 {
-    is_name_byte(b) && b != b'.' && b != b'-'
+    FIRST_BYTES[b as usize]
 }
 
 /// May a name hold this byte: is it a letter, a digit, `_`, `.` or `-`? Takes constant time.
@@ -43,6 +42,29 @@ static NAME_BYTES: [bool; 256] = [
     false, false, false, false, false, false, false, false, false, false, false, false, false,
     false, false, false, false, false, false, false, false, false, false, false, false, false,
     false, false, false, false, false, false, true, true, false, true, true, true, true, true,
+    true, true, true, true, true, false, false, false, false, false, false, false, true, true,
+    true, true, true, true, true, true, true, true, true, true, true, true, true, true, true, true,
+    true, true, true, true, true, true, true, true, false, false, false, false, true, false, true,
+    true, true, true, true, true, true, true, true, true, true, true, true, true, true, true, true,
+    true, true, true, true, true, true, true, true, true, false, false, false, false, false, false,
+    false, false, false, false, false, false, false, false, false, false, false, false, false,
+    false, false, false, false, false, false, false, false, false, false, false, false, false,
+    false, false, false, false, false, false, false, false, false, false, false, false, false,
+    false, false, false, false, false, false, false, false, false, false, false, false, false,
+    false, false, false, false, false, false, false, false, false, false, false, false, false,
+    false, false, false, false, false, false, false, false, false, false, false, false, false,
+    false, false, false, false, false, false, false, false, false, false, false, false, false,
+    false, false, false, false, false, false, false, false, false, false, false, false, false,
+    false, false, false, false, false, false, false, false, false, false, false, false, false,
+    false, false, false, false, false, false, false, false, false, false,
+];
+
+/// For each byte, whether a name may begin with it.
+static FIRST_BYTES: [bool; 256] = [
+    false, false, false, false, false, false, false, false, false, false, false, false, false,
+    false, false, false, false, false, false, false, false, false, false, false, false, false,
+    false, false, false, false, false, false, false, false, false, false, false, false, false,
+    false, false, false, false, false, false, false, false, false, true, true, true, true, true,
     true, true, true, true, true, false, false, false, false, false, false, false, true, true,
     true, true, true, true, true, true, true, true, true, true, true, true, true, true, true, true,
     true, true, true, true, true, true, true, true, false, false, false, false, true, false, true,

@@ -81,7 +81,10 @@ pub fn lightest(
 /// value is the cut of that set: what [`lightest`] gives with second weights that are all 0, without a table of them. The second flow
 /// has no line. `None` exactly where no stable pairing meets the conditions.
 ///
-/// Takes the time of [`lightest`] with one maximum flow.
+/// `levels` has for each proposer one level per place and one more for being unmatched, never falling. `weights` has one weight per
+/// place, of size at most 1,000,000,000. The conditions name proposers that there are, and are fewer than 2^24.
+///
+/// Takes the time and the memory of [`lightest`] with one maximum flow.
 ///
 /// # Errors
 ///

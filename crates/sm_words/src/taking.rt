@@ -6,7 +6,7 @@ ghost use Rattle.sm_words.specs.Takes.{takes_text, takes_rooms_alone, judges_ans
 
 use crate::jobs::Job;
 
-/// Does a job take text behind `end`?
+/// Does a job take text behind `end`? Takes constant time.
 pub fn takes_text(job: &Job) -> bool
     ensures { result ≡ takes_text (job_of job.now) }
 {
@@ -27,7 +27,7 @@ pub fn takes_text(job: &Job) -> bool
     }
 }
 
-/// Does a job take roommates alone?
+/// Does a job take roommates alone? Takes constant time.
 pub fn takes_rooms_alone(job: &Job) -> bool
     ensures { result ≡ takes_rooms_alone (job_of job.now) }
 {
@@ -37,7 +37,7 @@ pub fn takes_rooms_alone(job: &Job) -> bool
     }
 }
 
-/// Does a job judge the answer behind `end`?
+/// Does a job judge the answer behind `end`? Takes constant time.
 pub fn judges_answer(job: &Job) -> bool
     ensures { result ≡ judges_answer (job_of job.now) }
 {

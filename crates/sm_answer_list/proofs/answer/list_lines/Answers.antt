@@ -1,4 +1,4 @@
-use Rattle.sm_answer_vectors.proofs.ListLemmas.{if_ok}
+use Rattle.sm_lists.proofs.ResultLemmas.{IfOk-more}
 use Rattle.sm_answer_list.proofs.ListLemmas.{list_shown, lister_goes_on, lister_small}
 use Rattle.sm_answer_list.proofs.answer.list_lines.Goals as goal
 
@@ -13,4 +13,4 @@ list_vectors-requires-clause-small c = lister_small c.proposer_count-count.ensur
 
 pub returns-clause-right : goal.returns-clause-right
 returns-clause-right c =
-    if_ok c.list_vectors.result (λ made right lines given. list_shown c.args.input.now c.args.limit c.requires.lister lines (right lines given)) c.list_vectors.ensures.right
+    IfOk-more c.list_vectors.result _ _ (λ made right lines given. list_shown c.args.input.now c.args.limit c.requires.lister lines (right lines given)) c.list_vectors.ensures.right

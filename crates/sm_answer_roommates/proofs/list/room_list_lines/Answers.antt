@@ -1,5 +1,5 @@
 use Rattle.sm_room_list.proofs.NextLemmas.{room_goes_on}
-use Rattle.sm_answer_vectors.proofs.ListLemmas.{if_ok}
+use Rattle.sm_lists.proofs.ResultLemmas.{IfOk-more}
 use Rattle.sm_answer_roommates.proofs.RoomListLemmas.{lister_small, room_list_shown}
 use Rattle.sm_answer_roommates.proofs.list.room_list_lines.Goals as goal
 
@@ -14,4 +14,4 @@ list_vectors-requires-clause-small c = lister_small c.persons-persons.ensures.so
 
 pub returns-clause-right : goal.returns-clause-right
 returns-clause-right c =
-    if_ok c.list_vectors.result (λ made right lines given. room_list_shown c.args.input.now c.args.limit c.requires.after c.in_ok-lister.ensures lines (right lines given)) c.list_vectors.ensures.right
+    IfOk-more c.list_vectors.result _ _ (λ made right lines given. room_list_shown c.args.input.now c.args.limit c.requires.after c.in_ok-lister.ensures lines (right lines given)) c.list_vectors.ensures.right

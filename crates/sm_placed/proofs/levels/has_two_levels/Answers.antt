@@ -1,6 +1,6 @@
 use Rattle.std.proofs.Common.{sym, ap, ◌∙◌}
 use Rattle.sm_placed.specs.Levels.{has_two_levels}
-use Rattle.sm_placed.proofs.LevelLemmas.{any_is}
+use Rattle.sm_instance.proofs.NonzeroLemmas.{any_is}
 use Rattle.sm_placed.proofs.levels.has_two_levels.Goals as goal
 
 pub returns-in-Given : goal.returns-in-Given

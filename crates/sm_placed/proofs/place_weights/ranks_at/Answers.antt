@@ -1,10 +1,11 @@
-use Rattle.std.proofs.Common.{◌≡◌, ℕ, ◌+◌, ◌-◌, ◌<◌, ◌++◌, ◌∷◌, [], ◌∙◌, List, Option, ap, sym, subst, arith, get_or, length, pos, Some, All}
+use Rattle.std.proofs.Common.{◌≡◌, ℕ, ◌+◌, ◌-◌, ◌<◌, ◌++◌, ◌∷◌, [], ◌∙◌, List, Option, ap, sym, subst, arith, get_or, take, length, pos, Some, All}
+use Rattle.std.proofs.lemmas.List.{get_or-take}
 use Rattle.std.proofs.lemmas.List.Elements.{All-push}
 use Rattle.std.proofs.lemmas.List.FromFn.{map-range_with_len_more}
 use Rattle.sm_instance.specs.declared.kinds.Measure.TheVariants.{Ranks}
 use Rattle.sm_instance.specs.Ranks.{pair_weight, rank_back}
 use Rattle.sm_market.specs.Lists.{Lists, row}
-use Rattle.sm_seats.specs.Seating.{written_place}
+use Rattle.sm_seats.specs.Seating.{Seating, written_place, levels_of}
 use Rattle.sm_seats.proofs.SeatingLemmas.{level_is}
 use Rattle.sm_seats.proofs.SeatingLaws.{written_on}
 use Rattle.sm_theory.proofs.Weighing.Sizes.{small_is}
@@ -13,17 +14,21 @@ use Rattle.sm_placed.proofs.PlaceLemmas.{small_of}
 use Rattle.sm_placed.proofs.RankLemmas.{rank_read, rank_small}
 use Rattle.sm_placed.proofs.place_weights.ranks_at.Goals as goal
 
+-- a level among the first ones of a proposer is one more than the place
+level_read : (s : Seating) (levels : List ℕ) (p n i : ℕ) → levels ≡ row (levels_of s) p → i < n → i < length (row s.market.proposers p) → get_or (take n levels) i 0 ≡ written_place s p i + 1
+level_read s levels p n i same below on = get_or-take n levels i 0 below ∙ ap (λ (xs : List ℕ). get_or xs i 0) same ∙ level_is s p i on
+
 pub overflow_sub-level : goal.overflow_sub-level
 overflow_sub-level c =
     let same = ap (λ (l : Lists). length (row l.proposers c.args.p)) c.market.ensures in
-    let is = ap (λ (xs : List ℕ). get_or xs c.loop-i.i 0) c.requires.levels ∙ level_is c.args.seats.now c.args.p c.loop-i.i (omega (arith, same, c.proposer_len-places.ensures, c.loop-i-test.true)) in
+    let is = level_read c.args.seats.now c.args.levels.now c.args.p c.proposer_len-places.result c.loop-i.i c.requires.levels c.loop-i-test.true (omega (arith, same, c.proposer_len-places.ensures, c.loop-i-test.true)) in
     omega (arith, is)
 
 pub bounds-crosses-level : goal.bounds-crosses-level
 bounds-crosses-level c =
     let same = ap (λ (l : Lists). length (row l.proposers c.args.p)) c.market.ensures in
     let on : c.loop-i.i < length (row c.args.seats.now.market.proposers c.args.p) = omega (arith, same, c.proposer_len-places.ensures, c.loop-i-test.true) in
-    let is = ap (λ (xs : List ℕ). get_or xs c.loop-i.i 0) c.requires.levels ∙ level_is c.args.seats.now c.args.p c.loop-i.i on in
+    let is = level_read c.args.seats.now c.args.levels.now c.args.p c.proposer_len-places.result c.loop-i.i c.requires.levels c.loop-i-test.true on in
     omega (arith, is, written_on c.requires.seating c.args.p c.loop-i.i on, c.proposer_crosses-crosses.ensures.as_long)
 
 pub rank_in-back-requires : goal.rank_in-back-requires
@@ -34,8 +39,8 @@ rank_in-back-requires c =
     let i = c.loop-i.i in
     let same = ap (λ (l : Lists). length (row l.proposers p)) c.market.ensures in
     let on : i < length (row s.market.proposers p) = omega (arith, same, c.proposer_len-places.ensures, c.loop-i-test.true) in
-    let is = ap (λ (xs : List ℕ). get_or xs i 0) c.requires.levels ∙ level_is s p i on in
-    let place : get_or c.args.levels.now i 0 - 1 ≡ written_place s p i = omega (arith, is) in
+    let is = level_read s c.args.levels.now p c.proposer_len-places.result i c.requires.levels c.loop-i-test.true on in
+    let place : get_or (take c.proposer_len-places.result c.args.levels.now) i 0 - 1 ≡ written_place s p i = omega (arith, is) in
     let x : Option ℕ = c.index-crosses-level.result in
     (rank_read c.proposer_len-written.ensures.instance p (written_place s p i) c.proposer_crosses-crosses.result.now x c.proposer_crosses-crosses.ensures (written_on c.requires.seating p i on)
     (c.index-crosses-level.is ∙ ap (λ k. get_or c.proposer_crosses-crosses.result.now k x) place) (c.requires.acceptable i on)).fits
@@ -48,8 +53,8 @@ overflow_add-level c =
     let i = c.loop-i.i in
     let same = ap (λ (l : Lists). length (row l.proposers p)) c.market.ensures in
     let on : i < length (row s.market.proposers p) = omega (arith, same, c.proposer_len-places.ensures, c.loop-i-test.true) in
-    let is = ap (λ (xs : List ℕ). get_or xs i 0) c.requires.levels ∙ level_is s p i on in
-    let place : get_or c.args.levels.now i 0 - 1 ≡ written_place s p i = omega (arith, is) in
+    let is = level_read s c.args.levels.now p c.proposer_len-places.result i c.requires.levels c.loop-i-test.true on in
+    let place : get_or (take c.proposer_len-places.result c.args.levels.now) i 0 - 1 ≡ written_place s p i = omega (arith, is) in
     let x : Option ℕ = c.index-crosses-level.result in
     let it = rank_read c.proposer_len-written.ensures.instance p (written_place s p i) c.proposer_crosses-crosses.result.now x c.proposer_crosses-crosses.ensures (written_on c.requires.seating p i on)
     (c.index-crosses-level.is ∙ ap (λ k. get_or c.proposer_crosses-crosses.result.now k x) place) (c.requires.acceptable i on) in
@@ -65,8 +70,8 @@ loop-i-preserved c =
     let i = c.loop-i.i in
     let same = ap (λ (l : Lists). length (row l.proposers p)) c.market.ensures in
     let on : i < length (row s.market.proposers p) = omega (arith, same, c.proposer_len-places.ensures, c.loop-i-test.true) in
-    let level : ℕ = get_or c.args.levels.now i 0 in
-    let is : level ≡ written_place s p i + 1 = ap (λ (xs : List ℕ). get_or xs i 0) c.requires.levels ∙ level_is s p i on in
+    let level : ℕ = get_or (take c.proposer_len-places.result c.args.levels.now) i 0 in
+    let is : level ≡ written_place s p i + 1 = level_read s c.args.levels.now p c.proposer_len-places.result i c.requires.levels c.loop-i-test.true on in
     let place : level - 1 ≡ written_place s p i = omega (arith, is) in
     let x : Option ℕ = c.index-crosses-level.result in
     let it = rank_read c.proposer_len-written.ensures.instance p (written_place s p i) c.proposer_crosses-crosses.result.now x c.proposer_crosses-crosses.ensures (written_on c.requires.seating p i on)

@@ -1,7 +1,8 @@
 use Rattle.std.proofs.Common.{◌≡◌, length, arith, ap, sym}
 use Rattle.std.proofs.lemmas.List.{length-map}
 use Rattle.sm_market.specs.Vectors.{rows_of}
-use Rattle.sm_rotations.proofs.NeedsLemmas.{as_many, IfOk-more}
+use Rattle.sm_lists.proofs.ResultLemmas.{IfOk-more}
+use Rattle.sm_rotations.proofs.NeedsLemmas.{as_many}
 use Rattle.sm_rotations.proofs.TurnedBackLemmas.{followers_in_range, needs_turned}
 use Rattle.sm_rotations.proofs.predecessors.needs.Goals as goal
 

@@ -5,7 +5,7 @@ use Rattle.std.proofs.lemmas.List.{length-map}
 use Rattle.sm_lists.specs.Sums.{sum_to}
 use Rattle.sm_market.specs.Lists.{row}
 use Rattle.sm_market.specs.Vectors.{rows_of}
-use Rattle.sm_rotations.proofs.NeedsLemmas.{IfOk-more}
+use Rattle.sm_lists.proofs.ResultLemmas.{IfOk-more}
 use Rattle.sm_weight.specs.declared.edges.Edge.{Edge}
 use Rattle.sm_weight.specs.Edges.{AreMerged, room_total}
 use Rattle.sm_weight.specs.Basis.{joined, need_edges, gain_edges, forced_edges, forbidden_edges, raw_edges}

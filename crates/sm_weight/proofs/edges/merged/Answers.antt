@@ -1,5 +1,5 @@
 use Rattle.std.proofs.Common.{sym, subst, List}
-use Rattle.sm_rotations.proofs.NeedsLemmas.{IfOk-more}
+use Rattle.sm_lists.proofs.ResultLemmas.{IfOk-more}
 use Rattle.sm_weight.specs.declared.edges.Edge.{Edge}
 use Rattle.sm_weight.specs.Edges.{AreMerged, AreEdgesInOrder}
 use Rattle.sm_weight.proofs.EdgeLemmas.{in_order, merged_of}
