@@ -1,25 +1,31 @@
 //! The regrets of matchings that come one after another, by their rank vectors.
 
-ghost use Rattle.std.specs.Prelude.{◌≡◌, ◌<◌, ℕ, List, Option, length, slice_index, fold, max, IfOk};
+ghost use Rattle.std.specs.Prelude.{◌≡◌, ◌+◌, ◌<◌, ℕ, true, List, Option, length, slice_index, fold, min, max, IfOk};
 ghost use Rattle.sm_instance.specs.Matching.{IsMatching};
 ghost use Rattle.sm_instance.specs.Ranks.{rank_vector_of, regret_of};
 ghost use Rattle.sm_seats.specs.Vectors.{IsAllowedRankVector};
-ghost use Rattle.sm_answer_survey.specs.Regrets.{IsWorseRank, AreWorseRanks, AreKeptOf};
+ghost use Rattle.sm_answer_survey.specs.Regrets.{piece, IsWorseRank, AreWorseRanks, AreSameIn, AreKeptBut, IsGreatestIn, AreGreatest, AreKeptOf};
 
 use sm_instance::Instance;
 use std::alloc::{AllocError, Global};
 
-/// What is kept of the last matching, so that of the next one only what differs is looked up.
+/// How many proposers a piece has.
+const PIECE: u32 = 64;
+
+/// What is kept of the last matching, so that of the next one only the pieces that differ are gone over. A piece is 64 proposers
+/// that follow one another, or those that are left at the end.
 #[derive(Drop)]
 pub(crate) struct Regrets {
     /// For each proposer the rank of its partner, 0 before the first matching.
     ranks: Vec<u32>,
     /// For each proposer the greater of the ranks that it and its partner give each other.
     worse: Vec<u32>,
+    /// For each piece the greatest of these.
+    greatest: Vec<u32>,
 }
 
 impl Regrets {
-    /// Before the first matching. Takes two numbers for each proposer.
+    /// Before the first matching. Takes two numbers for each proposer, and one for each piece.
     ///
     /// # Errors
     ///
@@ -27,15 +33,20 @@ impl Regrets {
     pub(crate) fn new(alloc: Global, instance: &Instance) -> Result<Regrets, AllocError>
         ensures { IfOk result (λ regrets. AreKeptOf instance.now regrets) }
     {
-        let count = instance.proposer_count() as usize;
-        let ranks = vec![in alloc; 0; count]?;
-        let worse = vec![in alloc; 0; count]?;
-        Ok(Regrets { ranks, worse })
+        let count = instance.proposer_count();
+        let ranks = vec![in alloc; 0; count as usize]?;
+        let worse = vec![in alloc; 0; count as usize]?;
+        let greatest = vec![in alloc; 0; count.div_ceil(PIECE) as usize]?;
+        Ok(Regrets {
+            ranks,
+            worse,
+            greatest,
+        })
     }
 
     /// The regret of the next matching, by its rank vector: the greatest rank that an agent of a matched pair gives its partner,
     /// 0 where nobody is matched (Gusfield and Irving 1989, section 3.4.1). Takes no memory, and time in proportion to the
-    /// proposers.
+    /// proposers: a comparison for each, and more for those whose pieces differ.
     pub(crate) fn regret(&mut self, instance: &Instance, ranks: &[u32]) -> u32
         requires vector { IsAllowedRankVector instance.now ranks.now }
         requires kept { AreKeptOf instance.now self.old }
@@ -44,20 +55,62 @@ impl Regrets {
             → result ≡ regret_of instance.now places }
         ensures kept { AreKeptOf instance.now self.new }
     {
-        let worse = self.worse.as_mut_slice();
-        keep(instance, ranks, &mut self.ranks, worse);
-        greatest(worse)
+        let of_pieces = self.greatest.as_mut_slice();
+        keep_pieces(instance, ranks, &mut self.ranks, &mut self.worse, of_pieces);
+        greatest(of_pieces)
     }
 }
 
-/// Puts the ranks of a matching in place of those that are kept.
-fn keep(instance: &Instance, ranks: &[u32], kept: &mut [u32], worse: &mut [u32])
+/// Puts the ranks of a matching in place of those that are kept, piece by piece.
+fn keep_pieces(
+    instance: &Instance,
+    ranks: &[u32],
+    kept: &mut [u32],
+    worse: &mut [u32],
+    greatest: &mut [u32],
+)
     requires vector { IsAllowedRankVector instance.now ranks.now }
     requires worse { AreWorseRanks instance.now kept.old worse.old }
+    requires greatest { AreGreatest worse.old greatest.old }
     ensures worse { AreWorseRanks instance.now kept.new worse.new }
+    ensures greatest { AreGreatest worse.new greatest.new }
     ensures ranks { kept.new ≡ ranks.now }
 {
-    for p in 0..instance.proposer_count() {
+    let count = instance.proposer_count();
+    for piece in 0..greatest.len() {
+        let from = piece as u32 * PIECE;
+        let to = (from + PIECE).min(count);
+        if !are_same(kept, ranks, from, to) {
+            keep(instance, ranks, from, to, kept, worse);
+            greatest[piece] = greatest_in(worse, from, to);
+        }
+    }
+}
+
+/// Are the ranks of these proposers, which are a piece, the same?
+fn are_same(kept: &[u32], ranks: &[u32], from: u32, to: u32) -> bool
+    requires long { length kept.now ≡ length ranks.now }
+    requires piece { to ≡ min (from + piece) (length kept.now) }
+    ensures { result ≡ true → AreSameIn from kept.now ranks.now }
+{
+    let mut same = true;
+    for p in from..to {
+        same &= kept[p as usize] == ranks[p as usize];
+    }
+    same
+}
+
+/// Puts the ranks of a matching in place of those that are kept of these proposers, which are a piece.
+fn keep(instance: &Instance, ranks: &[u32], from: u32, to: u32, kept: &mut [u32], worse: &mut [u32])
+    requires vector { IsAllowedRankVector instance.now ranks.now }
+    requires worse { AreWorseRanks instance.now kept.old worse.old }
+    requires piece { to ≡ min (from + piece) (length kept.old) }
+    ensures worse { AreWorseRanks instance.now kept.new worse.new }
+    ensures same { AreSameIn from kept.new ranks.now }
+    ensures others { AreKeptBut from kept.old kept.new }
+    ensures others_worse { AreKeptBut from worse.old worse.new }
+{
+    for p in from..to {
         let rank = ranks[p as usize];
         if kept[p as usize] != rank {
             kept[p as usize] = rank;
@@ -77,6 +130,18 @@ fn worse_rank(instance: &Instance, ranks: &[u32], p: u32) -> u32
         return 0;
     }
     instance.worse_rank(p, rank - 1)
+}
+
+/// The greatest of the numbers of these proposers, which are a piece.
+fn greatest_in(numbers: &[u32], from: u32, to: u32) -> u32
+    requires { to ≡ min (from + piece) (length numbers.now) }
+    ensures { IsGreatestIn from numbers.now result }
+{
+    let mut greatest = 0;
+    for p in from..to {
+        greatest = greatest.max(numbers[p as usize]);
+    }
+    greatest
 }
 
 /// The greatest of numbers, 0 where there are none.

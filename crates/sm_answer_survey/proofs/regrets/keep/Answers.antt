@@ -1,35 +1,38 @@
-use Rattle.std.proofs.Common.{◌<◌, [], ◌∷◌, ◌++◌, length, slice_index, sym, ap, ◌∙◌, arith}
-use Rattle.std.proofs.lemmas.List.{take_all, take_more, take_more_set, take_more_same}
+use Rattle.std.proofs.Common.{◌<◌, length, slice_index, arith}
 use Rattle.sm_answer_list.proofs.RankLemmas.{vector_long}
-use Rattle.sm_answer_survey.proofs.RegretLemmas.{one_kept}
+use Rattle.sm_answer_survey.proofs.RegretLemmas.{one_kept, same_set, same_left, others_set, others_left, same_whole}
 use Rattle.sm_answer_survey.proofs.regrets.keep.Goals.{then-kept-p, else-kept-p}
 use Rattle.sm_answer_survey.proofs.regrets.keep.Goals as goal
 
 pub bounds-ranks-p : goal.bounds-ranks-p
-bounds-ranks-p c = let long = vector_long c.requires.vector in omega (arith, long)
+bounds-ranks-p c = let long = vector_long c.requires.vector in omega (arith, long, c.requires.piece, c.requires.worse.ranks_each)
 
 pub loop-p-preserved : goal.loop-p-preserved
 loop-p-preserved c =
     let ranks = c.args.ranks.now in
     let kept = c.loop-p.kept in
     let p = c.loop-p.p in
-    let long = vector_long c.requires.vector in
-    let inside : p < length ranks = omega (arith, long) in
-    let stands : p < length kept = omega (arith, c.loop-p.invariant.worse.ranks_each) in
+    let from = c.args.from in
+    let i = c.loop-p.invariant in
+    let stands : p < length kept = omega (arith, c.requires.piece, i.worse.ranks_each, c.requires.worse.ranks_each) in
     elim c.if-kept-p.branch [
       | then-kept-p w ↦
           record {
-            same = rw w.kept-is (take_more_set kept p (slice_index ranks p) stands ∙ ap (λ xs. xs ++ slice_index ranks p ∷ []) c.loop-p.invariant.same ∙ sym (take_more ranks p 0 inside));
-            worse = rw (w.kept-is, w.worse-is) (one_kept p (slice_index ranks p) w.worse_rank.result c.loop-p.invariant.worse (omega arith) w.worse_rank.ensures);
+            same = rw w.kept-is (same_set kept ranks from p stands i.same);
+            others = rw w.kept-is (others_set kept c.args.kept.now from p (slice_index ranks p) (omega arith) i.others);
+            others_worse = rw w.worse-is (others_set c.loop-p.worse c.args.worse.now from p w.worse_rank.result (omega arith) i.others_worse);
+            worse = rw (w.kept-is, w.worse-is) (one_kept p (slice_index ranks p) w.worse_rank.result i.worse (omega arith) w.worse_rank.ensures);
           }
       | else-kept-p w ↦
           record {
-            same = rw w.kept-is (take_more_same kept ranks p 0 stands inside c.loop-p.invariant.same w.if-kept-p.false);
-            worse = rw (w.kept-is, w.worse-is) c.loop-p.invariant.worse;
+            same = rw w.kept-is (same_left kept ranks from p w.if-kept-p.false i.same);
+            others = rw w.kept-is (others_left kept c.args.kept.now from p i.others);
+            others_worse = rw w.worse-is (others_left c.loop-p.worse c.args.worse.now from p i.others_worse);
+            worse = rw (w.kept-is, w.worse-is) i.worse;
           }
     ]
 
-pub returns-clause-ranks : goal.returns-clause-ranks
-returns-clause-ranks c =
+pub returns-clause-same : goal.returns-clause-same
+returns-clause-same c =
     let long = vector_long c.requires.vector in
-    sym (take_all c.loop-p.p c.loop-p.kept (omega (arith, c.loop-p.invariant.worse.ranks_each))) ∙ c.loop-p.invariant.same ∙ take_all c.loop-p.p c.args.ranks.now (omega (arith, long))
+    same_whole c.loop-p.kept c.args.ranks.now c.args.from c.loop-p.p c.args.to (omega (arith, long, c.loop-p.invariant.worse.ranks_each)) (omega (arith, c.requires.piece, c.requires.worse.ranks_each, c.loop-p.invariant.worse.ranks_each)) (omega arith) c.loop-p.invariant.same
