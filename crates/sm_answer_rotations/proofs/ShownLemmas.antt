@@ -200,7 +200,7 @@ module _ {w : Written} {s : Seating} (h : IsSeating w s) {first : Places} {rotat
       (cond (is_member set n && nat_lt (pair_of x p) (length x)) (max before (place_of w.proposers p (target_at x (pair_of x p)))) before)) (sym (rotation_shown s rotations n)) step
 
   -- the matching that is shown of a set is that of the set among the seats
-  matching_is : (set : List Bool) → matching_shown w (shown_of s first rotations needs) set ≡ written_of s (matching_of s.market first rotations set).proposers
+  pub matching_is : (set : List Bool) → matching_shown w (shown_of s first rotations needs) set ≡ written_of s (matching_of s.market first rotations set).proposers
   matching_is set = ext_get_or None _ _ (long ∙ sym long') (λ p here. at p (omega (arith, here, long)))
     where
       shown : ShownRotations

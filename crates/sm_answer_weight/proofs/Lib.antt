@@ -1,6 +1,5 @@
 pub mod MemberLemmas
 pub mod SizeLemmas
 pub mod RowLemmas
-pub mod GainLemmas
 pub mod LineLemmas
 pub mod RightLemmas

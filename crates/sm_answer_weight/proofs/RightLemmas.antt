@@ -1,5 +1,5 @@
 -- The lines of the answer of `weight` are right.
-use Rattle.std.proofs.Common.{◌≡◌, ℕ, suc, ◌+◌, ◌-◌, ◌<◌, Bool, true, false, List, [], ◌∷◌, ◌++◌, length, map, slice_index_or, ℤ, pos, refl, sym, ap, ◌∙◌, subst, arith}
+use Rattle.std.proofs.Common.{◌≡◌, ℕ, suc, ◌+◌, ◌-◌, ◌<◌, Bool, true, false, List, [], ◌∷◌, ◌++◌, length, map, slice_index_or, Option, ℤ, pos, refl, sym, ap, ◌∙◌, subst, arith}
 use Rattle.std.specs.List.{flat_map, range_with_len}
 use Rattle.std.proofs.lemmas.List.{get_or-map}
 use Rattle.std.proofs.lemmas.List.FromFn.{length-map-range_with_len}
@@ -7,15 +7,14 @@ use Rattle.sm_answer.specs.Lines.{lines_from}
 use Rattle.sm_answer.proofs.AnswerLemmas.{lines_from-same}
 use Rattle.sm_instance.specs.Written.{Written}
 use Rattle.sm_instance.specs.Sound.{IsInstance}
-use Rattle.sm_instance.specs.Ranks.{pair_weight, weight_of as written_weight, second_of}
+use Rattle.sm_instance.specs.Ranks.{weight_of as written_weight, second_of}
 use Rattle.sm_instance.specs.declared.kinds.Measure.{Measure}
 use Rattle.sm_instance.specs.declared.kinds.Side.TheVariants.{Proposers}
 use Rattle.sm_market.specs.Lists.{Lists, agents}
 use Rattle.sm_market.specs.Matching.{Places}
-use Rattle.sm_report.specs.declared.lines.Seat.{Seat}
 use Rattle.sm_report.specs.Heads.{HeadData}
 use Rattle.sm_report.specs.Lines.{LineData}
-use Rattle.sm_theory.specs.Chains.{rotation_at, IsPrintedChain, AreNeeds}
+use Rattle.sm_theory.specs.Chains.{IsPrintedChain, AreNeeds}
 use Rattle.sm_theory.specs.Weights.{gain_of}
 use Rattle.sm_poset.specs.Posets.{RotationPoset, IsPoset, poset_of}
 use Rattle.sm_seats.specs.SeatMarket.{seat_market}
@@ -32,33 +31,28 @@ use Rattle.sm_theory.specs.FlowLines.{amount_on}
 use Rattle.sm_answer.specs.MatchingLines.{pair_line}
 use Rattle.sm_answer_rotations.specs.PairLines.{seated_pair_line}
 use Rattle.sm_answer_rotations.specs.Reduction.{seat_line}
-use Rattle.sm_answer_rotations.specs.RotationLines.{first_seat_line, first_seat, seated_rotation, shown_of}
-use Rattle.sm_answer_rotations.specs.RotationAnswer.{pairs_of}
+use Rattle.sm_answer_rotations.specs.RotationLines.{first_seat_line, first_seat, shown_of}
 use Rattle.sm_answer_rotations.specs.GivenLines.{two_lines}
-use Rattle.sm_answer_rotations.proofs.ShownLemmas.{pairs_at_shown, correspondence}
+use Rattle.sm_answer_rotations.proofs.ShownLemmas.{matching_is}
 use Rattle.sm_answer_rotations.proofs.PairLemmas.{pair_alike}
 use Rattle.sm_answer_rotations.proofs.RotationLemmas.{flat_map_alike, lines_shown, first_shown}
-use Rattle.sm_answer_weight.specs.WeightAnswer.{FillsCut, AreCertificates, gain_of_pairs, gain_in, second_gain_in, in_two, WeightParts, net_in, second_net_in, matching_in, gained_lines, flow_line, second_flow_line, member_numbers, second_figures, weight_lines, IsWeightAnswer}
+use Rattle.sm_answer_weight.specs.WeightAnswer.{FillsCut, AreCertificates, gain_in, second_gain_in, in_two, WeightParts, net_in, second_net_in, matching_in, gained_lines, flow_line, second_flow_line, member_numbers, second_figures, weight_lines, IsWeightAnswer}
 use Rattle.sm_instance.specs.Lightest.{IsLightestByBoth}
 use Rattle.sm_answer_weight.specs.Found.{IsLightestOfSeats, shown_ends}
 use Rattle.sm_answer_weight.specs.Given.{row_lines, rows_found, edge_line, second_gain_line, weight_given}
 use Rattle.sm_answer_weight.specs.declared.figures.Level.TheVariants.{First, Second}
 use Rattle.sm_answer_weight.specs.declared.lightest_parts.Lightest.{Lightest}
-use Rattle.sm_answer_weight.proofs.GainLemmas.{gain_shown}
 use Rattle.sm_answer_weight.proofs.LineLemmas.{figures_are, given_sound}
 
 -- Parts of the lines.
 
 -- the lines of a rotation
 pub gained_shown : (by : Measure) (w : Written) (parts : WeightParts) (k : ℕ) → gained_lines by w parts k
-    ≡ two_lines (seating_of w) parts.rotations parts.needs k ++ LineData.Gain (k + 1) (gain_of_pairs (pair_weight by w) w (pairs_of (seated_rotation (seating_of w) (rotation_at parts.rotations k))))
-    ∷ in_two (has_two_levels by w) (LineData.SecondGain (k + 1) (gain_of_pairs (pair_second_by by w) w (pairs_of (seated_rotation (seating_of w) (rotation_at parts.rotations k)))) ∷ [])
+    ≡ two_lines (seating_of w) parts.rotations parts.needs k ++ LineData.Gain (k + 1) (gain_in by w parts k)
+    ∷ in_two (has_two_levels by w) (LineData.SecondGain (k + 1) (second_gain_in by w parts k) ∷ [])
 gained_shown by w parts k =
-    let s = seating_of w in
-    let two = has_two_levels by w in
-    ap (λ (t : List LineData). t ++ LineData.Gain (k + 1) (gain_in by w parts k) ∷ in_two two (LineData.SecondGain (k + 1) (second_gain_in by w parts k) ∷ [])) (sym (lines_shown s parts.first parts.rotations parts.needs k))
-    ∙ ap (λ (t : List (ℕ × Seat)). two_lines s parts.rotations parts.needs k ++ LineData.Gain (k + 1) (gain_of_pairs (pair_weight by w) w (pairs_of t))
-    ∷ in_two two (LineData.SecondGain (k + 1) (gain_of_pairs (pair_second_by by w) w (pairs_of t)) ∷ [])) (pairs_at_shown s parts.rotations k)
+    ap (λ (t : List LineData). t ++ LineData.Gain (k + 1) (gain_in by w parts k) ∷ in_two (has_two_levels by w) (LineData.SecondGain (k + 1) (second_gain_in by w parts k) ∷ []))
+    (sym (lines_shown (seating_of w) parts.first parts.rotations parts.needs k))
 
 -- the lines of a flow
 flow_shown : (sink : ℕ) (flow : List FlowLine) → map (edge_line First) (map (shown_ends sink) flow) ≡ map (flow_line sink) flow
@@ -118,9 +112,14 @@ module _ {w : Written} (h : IsSeating w (seating_of w)) (found : Lightest) (f : 
   places_there : found.matching.places ≡ set_matching (seated_poset w found) f.source.set.members.items
   places_there = f.places ∙ ap (λ (q : RotationPoset). set_matching q found.taken.members.items) same_poset ∙ ap (set_matching (seated_poset w found)) f.taken
 
-  -- the matching is the lightest in the instance, too
+  -- the matching that is shown of the set
+  shown_is : matching_in w (parts_in f needs) ≡ written_of (seating_of w) (set_matching (seated_poset w found) f.source.set.members.items).proposers
+  shown_is = matching_is h needs printed_there.chain needs_there.each f.source.set.members.items
+
+  -- it is the lightest in the instance, too
   lightest_in : IsLightestByBoth found.by w (matching_in w (parts_in f needs))
-  lightest_in = lightest_by_both h found.by (set_matching (seated_poset w found) f.source.set.members.items) lightest_there.lightest lightest_there.best
+  lightest_in = subst (IsLightestByBoth found.by w) (sym shown_is)
+      (lightest_by_both h found.by (set_matching (seated_poset w found) f.source.set.members.items) lightest_there.lightest lightest_there.best)
 
   -- in one level there are no second gains
   no_gains : has_two_levels found.by w ≡ false → AreZero f.source.gains2.items
@@ -144,20 +143,15 @@ module _ {w : Written} (h : IsSeating w (seating_of w)) (found : Lightest) (f : 
   rows_shown k here =
       let s = seating_of w in
       let rotations = found.basis.poset.rotations in
-      let first = gain_of (seat_market w) (weights_of found.by w s) in
-      let second = gain_of (seat_market w) (seconds_by found.by w s) in
-      let pairs = pairs_of (seated_rotation s (rotation_at rotations k)) in
-      let gain : slice_index_or found.gains.items k (pos 0) ≡ gain_of_pairs (pair_weight found.by w) w pairs =
-      ap (λ (xs : List ℤ). slice_index_or xs k (pos 0)) (f.gains ∙ lightest_there.gains) ∙ get_or-map first rotations k [] (pos 0) here
-      ∙ gain_shown h (pair_weight found.by w) printed_there.chain k here in
-      let other : slice_index_or found.second_gains.items k (pos 0) ≡ gain_of_pairs (pair_second_by found.by w) w pairs =
-      ap (λ (xs : List ℤ). slice_index_or xs k (pos 0)) (f.second_gains ∙ lightest_there.gains2) ∙ get_or-map second rotations k [] (pos 0) here
-      ∙ gain_shown h (pair_second_by found.by w) printed_there.chain k here in
+      let parts = parts_in f needs in
+      let gain : slice_index_or found.gains.items k (pos 0) ≡ gain_in found.by w parts k =
+      ap (λ (xs : List ℤ). slice_index_or xs k (pos 0)) (f.gains ∙ lightest_there.gains) ∙ get_or-map (gain_of (seat_market w) (weights_of found.by w s)) rotations k [] (pos 0) here in
+      let second : slice_index_or found.second_gains.items k (pos 0) ≡ second_gain_in found.by w parts k =
+      ap (λ (xs : List ℤ). slice_index_or xs k (pos 0)) (f.second_gains ∙ lightest_there.gains2) ∙ get_or-map (gain_of (seat_market w) (seconds_by found.by w s)) rotations k [] (pos 0) here in
       ap (λ z. two_lines s rotations needs k ++ LineData.Gain (k + 1) z ∷ in_two found.two_levels (second_gain_line found.second_gains.items k ∷ [])) gain
-      ∙ ap (λ z. two_lines s rotations needs k ++ LineData.Gain (k + 1) (gain_of_pairs (pair_weight found.by w) w pairs) ∷ in_two found.two_levels (LineData.SecondGain (k + 1) z ∷ [])) other
-      ∙ ap (λ two. two_lines s rotations needs k ++ LineData.Gain (k + 1) (gain_of_pairs (pair_weight found.by w) w pairs)
-      ∷ in_two two (LineData.SecondGain (k + 1) (gain_of_pairs (pair_second_by found.by w) w pairs) ∷ [])) f.two_levels
-      ∙ sym (gained_shown found.by w (parts_in f needs) k)
+      ∙ ap (λ z. two_lines s rotations needs k ++ LineData.Gain (k + 1) (gain_in found.by w parts k) ∷ in_two found.two_levels (LineData.SecondGain (k + 1) z ∷ [])) second
+      ∙ ap (λ two. two_lines s rotations needs k ++ LineData.Gain (k + 1) (gain_in found.by w parts k) ∷ in_two two (LineData.SecondGain (k + 1) (second_gain_in found.by w parts k) ∷ [])) f.two_levels
+      ∙ sym (gained_shown found.by w parts k)
 
   -- the figures of the second level
   second_shown : in_two found.two_levels (LineData.SecondValue found.second_value ∷ LineData.SecondCut found.second_value ∷ LineData.SecondTotal found.second_total ∷ [])
@@ -170,7 +164,8 @@ module _ {w : Written} (h : IsSeating w (seating_of w)) (found : Lightest) (f : 
       ap (λ two. in_two two (figures found.second_value found.second_value found.second_total)) f.two_levels
       ∙ ap (λ v. in_two two (figures v found.second_value found.second_total)) (f.second_value ∙ sym full_there.second.value)
       ∙ ap (λ k. in_two two (figures value k found.second_total)) (f.second_value ∙ sym full_there.second.cut_is)
-      ∙ ap (λ z. in_two two (figures value cut z)) (f.second_total ∙ ap (λ (x : Places). second_of found.by w (written_of (seating_of w) x.proposers)) places_there)
+      ∙ ap (λ z. in_two two (figures value cut z)) (f.second_total ∙ ap (λ (x : Places). second_of found.by w (written_of (seating_of w) x.proposers)) places_there
+      ∙ sym (ap (second_of found.by w) shown_is))
 
   -- the lines that are given are those of the answer
   given_is : weight_given (seating_of w) found found.basis.poset.first.places found.basis.poset.rotations needs ≡ weight_lines found.by w (parts_in f needs)
@@ -201,20 +196,19 @@ module _ {w : Written} (h : IsSeating w (seating_of w)) (found : Lightest) (f : 
       (ap (λ set. LineData.Taken (member_numbers set (length set))) f.taken)
       (ap (λ v. LineData.Value v) (f.value ∙ sym full_there.first.value))
       (ap (λ v. LineData.Cut v) (f.value ∙ sym full_there.first.cut_is))
-      (ap (λ z. LineData.Total z) (f.total ∙ ap (λ (x : Places). written_weight found.by w (written_of s x.proposers)) places_there))
+      (ap (λ z. LineData.Total z) (f.total ∙ ap (λ (x : Places). written_weight found.by w (written_of s x.proposers)) places_there ∙ sym (ap (written_weight found.by w) shown_is)))
       second_shown
       (ap (λ (x : Places). lines_from (seated_pair_line s x) 0 (length s.market.proposers - 0)) places_there
       ∙ ap (lines_from (seated_pair_line s m) 0) all
-      ∙ lines_from-same (seated_pair_line s m) (pair_line w (written_of s m.proposers)) (pair_alike h m lightest_there.lightest.stable) 0 (length w.proposers))
+      ∙ lines_from-same (seated_pair_line s m) (pair_line w (written_of s m.proposers)) (pair_alike h m lightest_there.lightest.stable) 0 (length w.proposers)
+      ∙ ap (λ (x : List (Option ℕ)). lines_from (pair_line w x) 0 (length w.proposers)) (sym shown_is))
 
   right_there : IsInstance w → IsWeightAnswer found.by w (weight_given (seating_of w) found found.basis.poset.first.places found.basis.poset.rotations needs)
   right_there i = record {
     parts = parts_in f needs;
     printed = printed_there;
     needed = needs_there;
-    corresponds = correspondence needs h printed_there.chain needs_there.each;
     certificates = certified (has_two_levels found.by w) refl;
-    closed = lightest_there.closed;
     lightest = lightest_in;
     shows = given_is;
     sound = given_sound i h found f p needs n;

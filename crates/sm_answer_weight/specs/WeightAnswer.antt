@@ -1,10 +1,10 @@
 -- The answer of `weight`.
-use Rattle.std.specs.Prelude.{◌≡◌, ℕ, zero, suc, ◌+◌, ◌==◌, if◌then◌else◌, Bool, true, false, List, [], ◌∷◌, ◌++◌, length, map, Option, Some, ℤ, ◌-ℤ◌}
+use Rattle.std.specs.Prelude.{◌≡◌, ℕ, zero, suc, ◌+◌, ◌==◌, if◌then◌else◌, Bool, true, false, List, [], ◌∷◌, ◌++◌, length, map, Option, ℤ}
 use Rattle.std.specs.List.{All, flat_map, range_with_len}
 use Rattle.sm_answer.specs.Lines.{lines_from}
-use Rattle.sm_instance.specs.Written.{Written, place_of}
+use Rattle.sm_instance.specs.Written.{Written}
 use Rattle.sm_instance.specs.Lightest.{IsLightestByBoth}
-use Rattle.sm_instance.specs.Ranks.{pair_weight, weight_of, second_of}
+use Rattle.sm_instance.specs.Ranks.{weight_of, second_of}
 use Rattle.sm_instance.specs.declared.inputs.Input.TheVariants.{Two}
 use Rattle.sm_instance.specs.declared.kinds.Measure.{Measure}
 use Rattle.sm_market.specs.Matching.{Places}
@@ -12,23 +12,22 @@ use Rattle.sm_report.specs.Heads.{HeadData}
 use Rattle.sm_report.specs.Lines.{LineData}
 use Rattle.sm_report.specs.Sound.{IsLineOf}
 use Rattle.sm_report.specs.Texts.{SINK}
-use Rattle.sm_theory.specs.Chains.{IsPrintedChain, AreNeeds}
-use Rattle.sm_theory.specs.ClosedSets.{is_member, IsClosed, matching_of}
-use Rattle.sm_theory.specs.Rotations.{proposer_at, reviewer_at, target_at}
-use Rattle.sm_theory.specs.Weights.{total}
+use Rattle.sm_theory.specs.Chains.{rotation_at, IsPrintedChain, AreNeeds}
+use Rattle.sm_theory.specs.ClosedSets.{is_member}
+use Rattle.sm_theory.specs.Weights.{gain_of}
 use Rattle.sm_theory.specs.Net.{Net, cut_of}
 use Rattle.sm_theory.specs.Flows.{IsFlow, flow_value, IsResidualReach}
 use Rattle.sm_theory.specs.Conditions.{net_of}
 use Rattle.sm_theory.specs.SecondNets.{second_net_of}
 use Rattle.sm_seats.specs.SeatMarket.{seat_market}
-use Rattle.sm_seats.specs.Seating.{seating_of, written_of, levels_of}
+use Rattle.sm_seats.specs.Seating.{seating_of, levels_of}
 use Rattle.sm_seats.specs.Correspondence.{leveled, weights_of}
-use Rattle.sm_placed.specs.Levels.{has_two_levels, pair_second_by, seconds_by}
+use Rattle.sm_placed.specs.Levels.{has_two_levels, seconds_by}
 use Rattle.sm_theory.specs.declared.flow_lines.FlowLine.{FlowLine}
 use Rattle.sm_theory.specs.FlowLines.{amount_on, AreFlowLines}
 use Rattle.sm_answer.specs.MatchingLines.{pair_line}
-use Rattle.sm_answer_rotations.specs.RotationLines.{ShownRotations, first_seat_line, pairs_at, rotation_lines, shown_of}
-use Rattle.sm_answer_rotations.specs.RotationAnswer.{pairs_of, IsCorrespondence}
+use Rattle.sm_answer_rotations.specs.RotationLines.{ShownRotations, first_seat_line, rotation_lines, shown_of}
+use Rattle.sm_answer_rotations.specs.RotationAnswer.{matching_shown}
 
 -- a flow by its lines, whose value is the cut of a set: so no flow has a greater value, and no cut a smaller one
 -- (Ford and Fulkerson 1956)
@@ -62,24 +61,13 @@ pub record WeightParts : Type 0 where
 abbrev pub shown_in : Written → WeightParts → ShownRotations
 shown_in w parts = shown_of (seating_of w) parts.first parts.rotations parts.needs
 
--- what a proposer and a reviewer of its list weigh
-abbrev pub weight_with : (ℕ → Option ℕ → ℤ) → Written → (p r : ℕ) → ℤ
-weight_with weigh w p r = weigh p (Some (place_of w.proposers p r))
-
--- the weight of a rotation's new pairs less that of its old ones, where it is given by its proposers, each with the reviewer that it
--- leaves for that of the next one
-abbrev pub gain_of_pairs : (ℕ → Option ℕ → ℤ) → Written → List (ℕ × ℕ) → ℤ
-gain_of_pairs weigh w rotation = total (λ i.
-    let p = proposer_at rotation i in
-    weight_with weigh w p (target_at rotation i) -ℤ weight_with weigh w p (reviewer_at rotation i)) (length rotation)
-
--- the gain of a rotation as it is shown
+-- the gain of a rotation
 abbrev pub gain_in : Measure → Written → WeightParts → ℕ → ℤ
-gain_in by w parts k = gain_of_pairs (pair_weight by w) w (pairs_of (pairs_at (shown_in w parts) k))
+gain_in by w parts k = gain_of (seat_market w) (weights_of by w (seating_of w)) (rotation_at parts.rotations k)
 
 -- its gain by second weights
 abbrev pub second_gain_in : Measure → Written → WeightParts → ℕ → ℤ
-second_gain_in by w parts k = gain_of_pairs (pair_second_by by w) w (pairs_of (pairs_at (shown_in w parts) k))
+second_gain_in by w parts k = gain_of (seat_market w) (seconds_by by w (seating_of w)) (rotation_at parts.rotations k)
 
 -- the net of the gains, the needs and the conditions
 -- (Irving, Leather and Gusfield 1987; Gusfield and Irving 1989, chapter 3)
@@ -93,9 +81,9 @@ second_net_in by w parts =
     second_net_of (seat_market w) (levels_of (seating_of w)) (weights_of by w (seating_of w)) (seconds_by by w (seating_of w))
     (leveled w w.forced) (leveled w w.forbidden) parts.first parts.rotations parts.needs (amount_on parts.flow)
 
--- the matching of the set that is taken, once seat numbers are forgotten
+-- the matching of the set that is taken
 abbrev pub matching_in : Written → WeightParts → List (Option ℕ)
-matching_in w parts = written_of (seating_of w) (matching_of (seat_market w) parts.first parts.rotations parts.taken).proposers
+matching_in w parts = matching_shown w (shown_in w parts) parts.taken
 
 -- what stands in answers of two levels alone
 abbrev pub in_two : Bool → List LineData → List LineData
@@ -149,17 +137,14 @@ weight_lines by w parts =
     ++ LineData.End ∷ [])))))))
 
 -- The lines are the seats in the proposers' best matching, the printed chain of rotations from it on with what each of them
--- needs and gains, a flow in the net, in two levels a second flow in its second net, the residual reach of the last of them, which is
--- closed, and the pairs of the reach's matching, which is the lightest that is allowed; and the stable matchings are those of the closed
--- sets that are shown. All are lines of the instance: where unbounded edges lead in a circle a flow may go round it with any amount,
--- also with one that has no 64 bits.
+-- needs and gains, a flow in the net, in two levels a second flow in its second net, the residual reach of the last of them, and the
+-- pairs of the reach's matching, which is the lightest that is allowed. All are lines of the instance: where unbounded edges lead in a
+-- circle a flow may go round it with any amount, also with one that has no 64 bits.
 pub record IsWeightAnswer (by : Measure) (w : Written) (answer : List LineData) : Type 0 where
   pub parts : WeightParts
   pub printed : IsPrintedChain (seat_market w) parts.first parts.rotations
   pub needed : AreNeeds (seat_market w) parts.rotations parts.needs
-  pub corresponds : IsCorrespondence w (shown_in w parts)
   pub certificates : AreCertificates (has_two_levels by w) (net_in by w parts) (second_net_in by w parts) parts.flow parts.second parts.taken
-  pub closed : IsClosed (seat_market w) parts.rotations parts.taken
   pub lightest : IsLightestByBoth by w (matching_in w parts)
   pub shows : answer ≡ weight_lines by w parts
   pub sound : All (IsLineOf (Two w)) answer

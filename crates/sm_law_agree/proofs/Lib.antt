@@ -13,6 +13,7 @@ pub mod RotationsAgree
 pub mod FlowLemmas
 pub mod WeightLines
 pub mod WeightBlocks
+pub mod ReachLemmas
 pub mod WeightFigures
 pub mod WeightAgree
 pub mod WitnessLemmas

@@ -26,7 +26,6 @@ use Rattle.sm_seats.specs.Seating.{seating_of, written_of}
 use Rattle.sm_seats.specs.Correspondence.{IsSeating}
 use Rattle.sm_seats.proofs.CorrespondenceLaws.{is_seating, sound_entries}
 use Rattle.sm_placed.proofs.SecondLemmas.{lightest_by_both}
-use Rattle.sm_answer_rotations.proofs.ShownLemmas.{correspondence}
 use Rattle.sm_answer_weight.specs.WeightAnswer.{FillsCut, IsCertificate, IsWeightAnswer}
 use Rattle.sm_answer_weight.specs.Witnesses.{parts_of_two, answer_of_two}
 use Rattle.sm_law_agree.specs.Witnesses.{weighed_by_two, WeighedByTwo}
@@ -149,9 +148,7 @@ right = record {
   parts = parts_of_two;
   printed = three_cycle_is.1;
   needed = record { one_each = refl; each = worked_net.0.each };
-  corresponds = correspondence three_cycle_needs seating three_cycle_is.1.chain worked_net.0.each;
   certificates = (fills, certificate);
-  closed = closed;
   lightest = lightest;
   shows = refl;
   sound = two_sound weighed_by_two.weights weighed_by_two.seconds;

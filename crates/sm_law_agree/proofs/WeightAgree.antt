@@ -10,7 +10,7 @@ use Rattle.sm_instance.specs.declared.kinds.Measure.{Measure}
 use Rattle.sm_instance.specs.declared.kinds.Side.TheVariants.{Proposers}
 use Rattle.sm_market.specs.Matching.{Places}
 use Rattle.sm_theory.specs.Chains.{IsPrintedChain, AreNeeds}
-use Rattle.sm_theory.specs.ClosedSets.{IsClosed}
+use Rattle.sm_theory.specs.ClosedSets.{IsClosed, matching_of}
 use Rattle.sm_theory.specs.declared.flow_lines.FlowLine.{FlowLine}
 use Rattle.sm_theory.proofs.Bridge.Chain.{eliminable_of}
 use Rattle.sm_theory.proofs.Chains.Length.{short_eliminable}
@@ -20,11 +20,13 @@ use Rattle.sm_report.specs.Sound.{IsLineOf}
 use Rattle.sm_answer.specs.Lines.{lines_from}
 use Rattle.sm_seats.specs.SeatMarket.{seat_market}
 use Rattle.sm_seats.specs.SeatEntries.{AreFewSeats}
-use Rattle.sm_seats.specs.Seating.{Seating, seating_of}
+use Rattle.sm_seats.specs.Seating.{Seating, seating_of, levels_of, written_of}
+use Rattle.sm_seats.specs.Correspondence.{leveled, weights_of}
 use Rattle.sm_seats.proofs.CorrespondenceLaws.{is_seating, sound_entries}
 use Rattle.sm_seats.proofs.LawsProved.{few_seats_fit}
-use Rattle.sm_placed.specs.Levels.{has_two_levels}
+use Rattle.sm_placed.specs.Levels.{has_two_levels, seconds_by}
 use Rattle.sm_answer_rotations.specs.Reduction.{seat_line}
+use Rattle.sm_answer_rotations.proofs.ShownLemmas.{matching_is}
 use Rattle.sm_answer_weight.specs.WeightAnswer.{AreCertificates, WeightParts, net_in, second_net_in, matching_in, in_two, shown_node, flow_line, second_flow_line, second_figures}
 use Rattle.sm_instance.specs.Lightest.{IsLightestByBoth}
 use Rattle.sm_report.specs.declared.keywords.Keyword.{Keyword}
@@ -41,13 +43,14 @@ use Rattle.sm_law_agree.proofs.LineLemmas.{Held, pass_append, map_pass, has_word
 use Rattle.sm_law_agree.proofs.PairLemmas.{wanted_pair, all_wanted, lines_with, Above, pairs_hold, pairs_pass}
 use Rattle.sm_law_agree.proofs.WeightLines.{AreSaid, said_more, Early, early_more, early_as, in_blocks, in_flow, in_second, in_figures, block_lines, block_size, blocks_whole, taken_line, value_of, value_line, cut_line, total_line, second_value_of, second_value_line, second_cut_line, second_total_line, last_lines, lines_of_figures, second_edges, lines_of, weight_shown}
 use Rattle.sm_law_agree.proofs.WeightBlocks.{C, head_holds, pass_in_two, firsts_are, blocks_are, firsts_pass, lines_pass, firsts_fit, blocks_fit}
+use Rattle.sm_law_agree.proofs.ReachLemmas.{certified_closed}
 use Rattle.sm_law_agree.proofs.WeightFigures.{IsRight, edges_hold, second_edges_hold, none_said, taken_line_holds, value_holds, cut_holds, total_holds, second_value_holds, second_cut_holds, second_total_holds, pair_holds, end_holds}
 
 -- The lines of a right answer.
 
 module _ (w : Written) (by : Measure) (parts : WeightParts) (i : IsInstance w) (few : AreFewSeats w) (printed : IsPrintedChain (seat_market w) parts.first parts.rotations) (needed : AreNeeds (seat_market w) parts.rotations parts.needs)
     (certificates : AreCertificates (has_two_levels by w) (net_in by w parts) (second_net_in by w parts) parts.flow parts.second parts.taken) (closed : IsClosed (seat_market w) parts.rotations parts.taken)
-    (lightest : IsLightestByBoth by w (matching_in w parts)) where
+    (matching : matching_in w parts ≡ written_of (seating_of w) (matching_of (seat_market w) parts.first parts.rotations parts.taken).proposers) (lightest : IsLightestByBoth by w (matching_in w parts)) where
   abbrev s : Seating
   s = seating_of w
 
@@ -85,7 +88,7 @@ module _ (w : Written) (by : Measure) (parts : WeightParts) (i : IsInstance w) (
       omega (arith, short_eliminable market printed.chain.from_best.stable.matching (eliminable_of printed.chain), (few_seats_fit w i few).proposers.entries)
 
   right : IsRight w by parts
-  right = record { few = omega (arith, short); chain = printed.chain; certificates = certificates; closed = closed; allowed = lightest.allowed }
+  right = record { few = omega (arith, short); chain = printed.chain; certificates = certificates; closed = closed; matching = matching; allowed = lightest.allowed }
 
   -- All lines.
 
@@ -271,5 +274,10 @@ module _ (w : Written) (by : Measure) (parts : WeightParts) (i : IsInstance w) (
 -- the law for `weight`
 pub weight_agrees : WeightAgrees
 weight_agrees w by lines i few a =
+    let s = seating_of w in
+    let l = seat_market w in
     let is = a.shows ∙ weight_shown by w a.parts a.printed.chain.from_best.stable.matching.proposers.one_each in
-    subst (GetYes (Two w)) (sym is) (weight_yes w by a.parts i few a.printed a.needed a.certificates a.closed a.lightest (subst (All (IsLineOf (Two w))) is a.sound))
+    let closed = certified_closed l (levels_of s) (weights_of by w s) (seconds_by by w s) (leveled w w.forced) (leveled w w.forbidden) a.parts.first a.parts.rotations a.parts.needs a.needed
+    (has_two_levels by w) a.parts.flow a.parts.second a.parts.taken a.certificates in
+    let matching = matching_is (is_seating (sound_entries i)) a.parts.needs a.printed.chain a.needed.each a.parts.taken in
+    subst (GetYes (Two w)) (sym is) (weight_yes w by a.parts i few a.printed a.needed a.certificates closed matching a.lightest (subst (All (IsLineOf (Two w))) is a.sound))

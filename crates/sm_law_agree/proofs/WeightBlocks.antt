@@ -25,10 +25,8 @@ use Rattle.sm_seats.proofs.CorrespondenceLaws.{is_seating, sound_entries}
 use Rattle.sm_placed.specs.Levels.{has_two_levels, pair_second_by}
 use Rattle.sm_answer_rotations.specs.Reduction.{seat_of, seat_line}
 use Rattle.sm_answer_rotations.specs.RotationLines.{numbers_of, seated_rotation, rotation_line, needs_line}
-use Rattle.sm_answer_rotations.specs.RotationAnswer.{pairs_of}
 use Rattle.sm_answer_rotations.proofs.RotationLemmas.{seats_named}
-use Rattle.sm_answer_weight.specs.WeightAnswer.{gain_of_pairs, in_two}
-use Rattle.sm_answer_weight.proofs.GainLemmas.{gain_shown}
+use Rattle.sm_answer_weight.specs.WeightAnswer.{in_two}
 use Rattle.sm_check_forms.specs.Seats.{seat_number, all_numbered}
 use Rattle.sm_check_forms.specs.Forms.{fits}
 use Rattle.sm_check_clauses.specs.declared.verdicts.Reason.{Reason}
@@ -248,16 +246,14 @@ module _ {w : Written} (two : Bool) (by : Measure) {first : Places} {rotations :
         (λ i. record { rotations = take (k + 1) rotations; needs = more i; flows = []; second_flows = []; taken = []; values = []; second_values = [] })
         (early_more w first (in_blocks rotations needs (k + 1) k) above (needs_line needs k) refl refl said)
 
-    -- the gain that is shown of the last rotation is its gain, whatever is weighed
+    -- the gain that is shown is that of the last rotation, whatever is weighed
     gain_told : (weigh : ℕ → Option ℕ → ℤ) → Early w first (in_blocks rotations needs (k + 1) (k + 1)) above
-        → gain_of_pairs weigh w (pairs_of (seated_rotation s (rotation_at rotations k))) ≡ gain_of l (weights_by weigh s) (rotation_at (rotations_in w above) (last_rotation w above))
+        → gain_of l (weights_by weigh s) (rotation_at rotations k) ≡ gain_of l (weights_by weigh s) (rotation_at (rotations_in w above) (last_rotation w above))
     gain_told weigh said =
         let d = in_blocks rotations needs (k + 1) (k + 1) in
-        let gain = gain_of_pairs weigh w (pairs_of (seated_rotation s (rotation_at rotations k))) in
         let gained : List (ℕ × ℕ) → ℤ = gain_of l (weights_by weigh s) in
-        let right : gain ≡ gained (rotation_at (take (k + 1) rotations) (length (take (k + 1) rotations) - 1)) =
-        sym (gain_shown seating weigh printed.chain k less) ∙ ap gained (sym (ap (rotation_at (take (k + 1) rotations)) last_is ∙ same_rotation l first rotations (k + 1) k (omega arith))) in
-        told w first (λ f d. gain ≡ gained (rotation_at d.rotations (length d.rotations - 1))) d above said.0 right
+        told w first (λ f d. gained (rotation_at rotations k) ≡ gained (rotation_at d.rotations (length d.rotations - 1))) d above said.0
+        (ap gained (sym (ap (rotation_at (take (k + 1) rotations)) last_is ∙ same_rotation l first rotations (k + 1) k (omega arith))))
 
     gain_holds : Early w first (in_blocks rotations needs (k + 1) (k + 1)) above → (why : Reason) → C w by above (gain_shown_at by w rotations k) why
     gain_holds said =

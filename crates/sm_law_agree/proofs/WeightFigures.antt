@@ -87,6 +87,7 @@ pub record IsRight (w : Written) (by : Measure) (parts : WeightParts) : Type 0 w
   pub chain : IsCompleteChain (seat_market w) parts.first parts.rotations
   pub certificates : AreCertificates (has_two_levels by w) (net_in by w parts) (second_net_in by w parts) parts.flow parts.second parts.taken
   pub closed : IsClosed (seat_market w) parts.rotations parts.taken
+  pub matching : matching_in w parts ≡ written_of (seating_of w) (matching_of (seat_market w) parts.first parts.rotations parts.taken).proposers
   pub allowed : IsAllowed w (matching_in w parts)
 
 module _ {w : Written} {by : Measure} {parts : WeightParts} (right : IsRight w by parts) where
@@ -278,7 +279,7 @@ module _ {w : Written} {by : Measure} {parts : WeightParts} (right : IsRight w b
       there = λ i c. told w first (λ f d. i ≤ length d.rotations) (in_second parts second) above said.0 (let le = number_there parts.taken (length parts.taken) i c in omega (arith, le, size_is));
       closed = told w first (λ f d. IsClosed l d.rotations (set_of_numbers (length d.rotations) numbers)) (in_second parts second) above said.0 (subst (IsClosed l rotations) (sym set_is) right.closed);
       allowed = told w first (λ f d. IsAllowed w (places_by f d (set_of_numbers (length d.rotations) numbers))) (in_second parts second) above said.0
-          (subst (λ (set : List Bool). IsAllowed w (written_of s (matching_of l first rotations set).proposers)) (sym set_is) right.allowed);
+          (subst (λ (set : List Bool). IsAllowed w (written_of s (matching_of l first rotations set).proposers)) (sym set_is) (subst (IsAllowed w) right.matching right.allowed));
     }
 
     -- all clauses hold at the line of the set
@@ -320,7 +321,8 @@ module _ {w : Written} {by : Measure} {parts : WeightParts} (right : IsRight w b
     -- the matching of the set
     matching_is : (values second_values : List ℕ) → AreSaid w first (in_figures parts values second_values) above → places ≡ taken_matching w above
     matching_is values second_values said =
-        told w first (λ f d. places ≡ places_by f d (set_by d)) (in_figures parts values second_values) above said (ap (λ (set : List Bool). written_of s (matching_of l first rotations set).proposers) (sym set_is))
+        told w first (λ f d. places ≡ places_by f d (set_by d)) (in_figures parts values second_values) above said
+        (right.matching ∙ ap (λ (set : List Bool). written_of s (matching_of l first rotations set).proposers) (sym set_is))
 
     -- at that of the total
     pub total_holds : Early w first (in_figures parts (value ∷ []) []) above → (why : Reason) → C w by above (total_line by w parts) why

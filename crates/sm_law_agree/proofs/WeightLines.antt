@@ -5,11 +5,12 @@ use Rattle.std.specs.List.{flat_map, range_with_len, list_all}
 use Rattle.std.proofs.lemmas.Bool.{false≢true}
 use Rattle.std.proofs.lemmas.List.FromFn.{length-map-range_with_len}
 use Rattle.sm_instance.specs.Written.{Written}
-use Rattle.sm_instance.specs.Ranks.{pair_weight, weight_of, second_of}
+use Rattle.sm_instance.specs.Ranks.{weight_of, second_of}
 use Rattle.sm_instance.specs.declared.kinds.Measure.{Measure}
 use Rattle.sm_instance.specs.declared.kinds.Side.TheVariants.{Proposers}
 use Rattle.sm_market.specs.Matching.{Places}
 use Rattle.sm_theory.specs.Chains.{rotation_at}
+use Rattle.sm_theory.specs.Weights.{gain_of}
 use Rattle.sm_theory.specs.Net.{cut_of}
 use Rattle.sm_theory.specs.Flows.{flow_value}
 use Rattle.sm_theory.specs.FlowLines.{amount_on}
@@ -20,13 +21,13 @@ use Rattle.sm_answer.specs.Lines.{lines_from}
 use Rattle.sm_answer.proofs.AnswerLemmas.{lines_from-same}
 use Rattle.sm_seats.specs.SeatMarket.{seat_market}
 use Rattle.sm_seats.specs.Seating.{Seating, seating_of}
-use Rattle.sm_placed.specs.Levels.{has_two_levels, pair_second_by}
+use Rattle.sm_seats.specs.Correspondence.{weights_of}
+use Rattle.sm_placed.specs.Levels.{has_two_levels, seconds_by}
 use Rattle.sm_answer.specs.MatchingLines.{pair_line}
 use Rattle.sm_answer_rotations.specs.Reduction.{seat_line}
-use Rattle.sm_answer_rotations.specs.RotationLines.{first_seat, first_seat_line, seated_rotation, rotation_line, needs_line}
-use Rattle.sm_answer_rotations.specs.RotationAnswer.{pairs_of}
+use Rattle.sm_answer_rotations.specs.RotationLines.{first_seat, first_seat_line, rotation_line, needs_line}
 use Rattle.sm_answer_rotations.proofs.RotationLemmas.{flat_map_alike, first_shown}
-use Rattle.sm_answer_weight.specs.WeightAnswer.{gain_of_pairs, WeightParts, shown_in, net_in, second_net_in, matching_in, in_two, gained_lines, flow_line, second_flow_line, member_numbers, second_figures, weight_lines}
+use Rattle.sm_answer_weight.specs.WeightAnswer.{WeightParts, shown_in, net_in, second_net_in, matching_in, in_two, gained_lines, flow_line, second_flow_line, member_numbers, second_figures, weight_lines}
 use Rattle.sm_answer_weight.proofs.RightLemmas.{gained_shown}
 use Rattle.sm_report.specs.declared.keywords.Keyword.TheVariants as keyword
 use Rattle.sm_check_forms.specs.declared.layouts.LayoutPart.{LayoutPart}
@@ -173,11 +174,11 @@ in_figures parts values second_values = record {
 
 -- the line of a gain
 abbrev pub gain_shown_at : Measure → Written → List (List (ℕ × ℕ)) → ℕ → LineData
-gain_shown_at by w rotations k = LineData.Gain (k + 1) (gain_of_pairs (pair_weight by w) w (pairs_of (seated_rotation (seating_of w) (rotation_at rotations k))))
+gain_shown_at by w rotations k = LineData.Gain (k + 1) (gain_of (seat_market w) (weights_of by w (seating_of w)) (rotation_at rotations k))
 
 -- that of a second gain
 abbrev pub second_shown_at : Measure → Written → List (List (ℕ × ℕ)) → ℕ → LineData
-second_shown_at by w rotations k = LineData.SecondGain (k + 1) (gain_of_pairs (pair_second_by by w) w (pairs_of (seated_rotation (seating_of w) (rotation_at rotations k))))
+second_shown_at by w rotations k = LineData.SecondGain (k + 1) (gain_of (seat_market w) (seconds_by by w (seating_of w)) (rotation_at rotations k))
 
 -- the lines of a rotation, of what it needs and of its gains
 abbrev pub block_lines : (two : Bool) → Measure → Written → List (List (ℕ × ℕ)) → List (List ℕ) → ℕ → List LineData

@@ -41,7 +41,6 @@ use Rattle.sm_seats.proofs.CorrespondenceLaws.{is_seating, sound_entries}
 use Rattle.sm_placed.specs.Levels.{pair_second_by, seconds_by}
 use Rattle.sm_placed.proofs.LevelLemmas.{none_second}
 use Rattle.sm_placed.proofs.SecondLemmas.{weight_none, lightest_by_both}
-use Rattle.sm_answer_rotations.proofs.ShownLemmas.{correspondence}
 use Rattle.sm_answer_weight.specs.WeightAnswer.{member_numbers, IsWeightAnswer}
 use Rattle.sm_instance.specs.Lightest.{IsLightestByBoth}
 use Rattle.sm_answer_weight.proofs.MemberLemmas.{are_rotations}
@@ -215,9 +214,7 @@ right = record {
   parts = three_parts;
   printed = three_cycle_is.1;
   needed = record { one_each = refl; each = worked_net.0.each };
-  corresponds = correspondence three_cycle_needs seating three_cycle_is.1.chain worked_net.0.each;
   certificates = (record { fills = record { lines = worked_lines.0; is_flow = worked_lines.1; full = refl }; reach = reach }, refl);
-  closed = closed;
   lightest = lightest;
   shows = refl;
   sound = three_sound weighed_three.weights weighed_three.seconds;

@@ -1,13 +1,11 @@
 -- The answers of specs/Witnesses.antt.
-use Rattle.std.proofs.Common.{◌≡◌, ◌≢◌, ℕ, zero, suc, ◌+◌, ◌<◌, ◌≤◌, inl, true, false, List, [], ◌∷◌, length, slice_index, slice_index_or, Option, Some, None, refl, sym, ap, ◌∙◌, subst, arith, get_or}
-use Rattle.std.specs.Prelude.{◌↔◌, IsTrue, Contains}
+use Rattle.std.proofs.Common.{◌≡◌, ◌≢◌, ℕ, zero, suc, ◌+◌, ◌<◌, ◌≤◌, inl, Bool, true, false, List, [], ◌∷◌, length, slice_index, slice_index_or, Option, Some, None, refl, sym, ap, ◌∙◌, subst, arith}
+use Rattle.std.specs.Prelude.{IsTrue}
 use Rattle.std.specs.List.{All}
-use Rattle.std.specs.List.Sorted.{IsStrictlyIncreasing}
 use Rattle.std.proofs.lemmas.Bool.{false≢true}
 use Rattle.std.proofs.lemmas.Bool.Decides.{nat_tests}
 use Rattle.std.proofs.lemmas.Option.{same_Some, none-some}
 use Rattle.sm_text.specs.Name as name
-use Rattle.sm_lists.specs.Rows.{row as list_row}
 use Rattle.sm_instance.proofs.OrderLemmas.{range_is_each_once}
 use Rattle.sm_instance.proofs.SecondLemmas.{zeros_small}
 use Rattle.sm_instance.specs.Written.{AgentData, Written, agent_at, row, entry, capacity_of, IsAcceptable}
@@ -21,6 +19,8 @@ use Rattle.sm_instance.specs.declared.inputs.Input.TheVariants.{Two}
 use Rattle.sm_market.specs.Matching.{Places}
 use Rattle.sm_market.specs.Stable.{IsStable as IsSeatStable, IsProposersBest as IsSeatProposersBest, IsReviewersBest as IsSeatReviewersBest}
 use Rattle.sm_answer.proofs.AnswerLemmas.{one_all}
+use Rattle.sm_report.specs.Heads.{HeadData}
+use Rattle.sm_report.specs.Lines.{LineData}
 use Rattle.sm_report.specs.Sound.{ArePair}
 use Rattle.sm_theory.specs.Lattice.{with_proposers}
 use Rattle.sm_theory.specs.Listings.{IsBehind, IsListing}
@@ -40,7 +40,7 @@ use Rattle.sm_seats.proofs.BestLaws.{seats_proposers_best, seats_reviewers_best}
 use Rattle.sm_answer_rotations.specs.RotationAnswer.{IsRotationAnswer}
 use Rattle.sm_answer_rotations.proofs.ShownLemmas.{correspondence}
 use Rattle.sm_answer_pairs.specs.RegretAnswer.{IsLeastRegret}
-use Rattle.sm_answer_pairs.specs.Partners.{IsStablePlace, IsFixedPlace, ArePartners, AreStablePairs}
+use Rattle.sm_answer_pairs.specs.PairsAnswer.{IsPairsAnswer}
 use Rattle.sm_pairs.specs.Held.{CantJoin, IsBreach, GiveStable}
 use Rattle.sm_answer_given.specs.GivenText.{AreGiven}
 use Rattle.sm_answer_roommates.specs.Witnesses.{odd_parties}
@@ -190,34 +190,36 @@ seats_first = seats_proposers_best (is_seating (sound_entries instance)) seated_
 seats_last : IsSeatReviewersBest (seat_market w) seated
 seats_last = seats_reviewers_best (is_seating (sound_entries instance)) seated_stable (subst (IsReviewersBest w) (sym unseated) reviewers_best)
 
--- the pair is stable, and fixed
-is_first : (k i : ℕ) → k < 1 → get_or (0 ∷ []) k i ≡ i → 0 ≡ i
-is_first zero i l e = e
-is_first (suc k) i l e = absurd (omega arith)
+-- the pair is the only stable one, and fixed
+abbrev is_only : (p i : ℕ) → Bool
+is_only zero zero = true
+is_only zero (suc i) = false
+is_only (suc p) i = false
 
-holds_first : (places : List (Option ℕ)) (i : ℕ) → IsStable w places → 0 ≡ i → held places 0 ≡ Some i
-holds_first places i s e = subst (λ o. held o 0 ≡ Some i) (only places s) (ap Some e)
+holds_only : (p i : ℕ) → is_only p i ≡ true → held together p ≡ Some i
+holds_only zero zero t = refl
+holds_only zero (suc i) t = absurd (false≢true t)
+holds_only (suc p) i t = absurd (false≢true t)
 
-partners : ArePartners w ((0 ∷ []) ∷ [])
-partners = record { one_each = refl; rising = rising; exact = exact }
-  where
-    rising : (p : ℕ) → p < 1 → IsStrictlyIncreasing (list_row ((0 ∷ []) ∷ []) p)
-    rising zero l = λ k h. absurd (omega (arith, h))
-    rising (suc p) l = absurd (omega arith)
+only_held : (p i : ℕ) → held together p ≡ Some i → is_only p i ≡ true
+only_held zero zero e = refl
+only_held zero (suc i) e = absurd (let z = same_Some 0 (suc i) e in omega (arith, z))
+only_held (suc p) i e = absurd (none-some i e)
 
-    exact : (p i : ℕ) → p < 1 → Contains (list_row ((0 ∷ []) ∷ []) p) i ↔ IsStablePlace w p i
-    exact zero i l = (
-      (λ c. record { places = together; stable = stable; holds = ap Some (is_first c.0 i c.1 c.2) }),
-      (λ s. let c : Contains (0 ∷ []) i = (0, omega arith, same_Some 0 i (subst (λ o. held o 0 ≡ Some i) (sym (only s.places s.stable)) s.holds)) in c),
-    )
-    exact (suc p) i l = absurd (omega arith)
+in_each : (places : List (Option ℕ)) (p i : ℕ) → IsStable w places → held together p ≡ Some i → held places p ≡ Some i
+in_each places p i s e = subst (λ o. held o p ≡ Some i) (only places s) e
 
-stable_pairs : AreStablePairs w (record { proposer = 0; reviewer = 0; fixed = true } ∷ [])
-stable_pairs = record { rows = (0 ∷ []) ∷ []; partners = partners; fixed = true ∷ []; always = always; each = refl }
-  where
-    always : (p i : ℕ) → p < 1 → Contains (list_row ((0 ∷ []) ∷ []) p) i → (slice_index_or (true ∷ []) p false ≡ true) ↔ IsFixedPlace w p i
-    always zero i l c = ((λ _ places s. holds_first places i s (is_first c.0 i c.1 c.2)), λ _. refl)
-    always (suc p) i l c = absurd (omega arith)
+right_pairs : IsPairsAnswer w (LineData.Answer HeadData.Pairs ∷ LineData.AllPair 0 0 ∷ LineData.End ∷ [])
+right_pairs = record {
+  is_stable = is_only;
+  is_fixed = is_only;
+  stable = λ p i. (
+    (λ t. record { places = together; stable = stable; holds = holds_only p i t }),
+    λ x. only_held p i (subst (λ o. held o p ≡ Some i) (sym (only x.places x.stable)) x.holds),
+  );
+  fixed = λ p i x. ((λ t places s. in_each places p i s (holds_only p i t)), λ f. only_held p i (f together stable));
+  shows = refl;
+}
 
 -- the right answers of each command over the one pair
 pub one_pair_is : OnePair
@@ -230,7 +232,7 @@ one_pair_is = (
   record { places = together; least = least; shows = refl },
   record { left = (0, 0) ∷ []; right = (0, 0) ∷ []; given = given; first = gives_stable; second = gives_stable; shows = refl },
   record { left = (0, 0) ∷ []; right = (0, 0) ∷ []; given = given; first = gives_stable; second = gives_stable; shows = refl },
-  record { pairs = record { proposer = 0; reviewer = 0; fixed = true } ∷ []; stable = stable_pairs; shows = refl },
+  right_pairs,
 )
 
 -- the right answers over both circles
