@@ -29,9 +29,9 @@ use Rattle.sm_check_forms.specs.Laws.{closing_of}
 use Rattle.sm_cert.specs.Yes.{GetsYes, ArePairsOf, IsChosen, MeetYes, JoinYes}
 use Rattle.sm_check_answers.proofs.ChosenLemmas.{of_clauses}
 use Rattle.sm_cert.proofs.GroupLemmas.{Tells, Begins, Parted, parted_behind, said_then}
-use Rattle.sm_cert.proofs.SolveYes.{same_places, free_pairs}
+use Rattle.sm_cert.proofs.SolveYes.{free_pairs}
 use Rattle.sm_cert.proofs.YesLines.{IsRight, right_two, at_closing, said_above, each_line, grown}
-use Rattle.sm_cert.proofs.YesPairs.{only_one, AreGiven, none_given, one_given, given_there, same_place}
+use Rattle.sm_cert.proofs.YesPairs.{only_one, AreGiven, none_given, one_given, given_there, same_place, same_places}
 
 -- The pairs of a matching that is wanted.
 module _ (w : Written) (wanted : List (Option ℕ)) (on_lists : IsAssignment w wanted) where

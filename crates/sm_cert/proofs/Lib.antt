@@ -1,8 +1,8 @@
 mod VerdictLaws
 mod JudgedLaws
 mod CheckLemmas
-mod YesLines
-mod YesPairs
+pub mod YesLines
+pub mod YesPairs
 mod GroupLemmas
 mod ListYes
 mod SolveYes

@@ -8,12 +8,11 @@ use Rattle.std.proofs.lemmas.List.{length-map}
 use Rattle.std.proofs.lemmas.List.FromFn.{length-map-range_with_len}
 use Rattle.std.proofs.lemmas.Option.{same_Some}
 use Rattle.sm_lists.specs.Rows.{place_on}
-use Rattle.sm_instance.specs.Written.{Written, place_of, lists_of}
+use Rattle.sm_instance.specs.Written.{Written, lists_of}
 use Rattle.sm_instance.specs.Stable.{IsStable, IsBestOf}
 use Rattle.sm_instance.specs.Allowed.{IsAllowed}
 use Rattle.sm_instance.specs.Ranks.{regret_of}
 use Rattle.sm_instance.proofs.CrossLemmas.{row-lists_of}
-use Rattle.sm_market.specs.Lists.{place_of as place_in_rows}
 use Rattle.sm_pairs.specs.Held.{partner_in, paired_place, places_in}
 use Rattle.sm_pairs.proofs.HoldingLemmas.{held_place}
 use Rattle.sm_report.specs.Heads.{HeadData}
@@ -31,11 +30,7 @@ use Rattle.sm_check_clauses.specs.Pairs.{IsFree}
 use Rattle.sm_cert.specs.Yes.{ArePairsOf, SolveYes, RegretYes}
 use Rattle.sm_cert.proofs.GroupLemmas.{Tells, goes, all_down, none_said}
 use Rattle.sm_cert.proofs.YesLines.{right_two, by_head, at_closing, said_above, grown}
-use Rattle.sm_cert.proofs.YesPairs.{AreGiven, none_given, one_given, pairs_of}
-
--- an agent's place for another, among its list and among all
-pub same_places : (w : Written) (p r : ℕ) → place_in_rows (lists_of w.proposers) p r ≡ place_of w.proposers p r
-same_places w p r = ap (λ list. place_on list r) (row-lists_of w.proposers p)
+use Rattle.sm_cert.proofs.YesPairs.{same_places, AreGiven, none_given, one_given, pairs_of}
 
 one_free : (w : Written) (pairs : List (ℕ × ℕ)) (x : ℕ × ℕ) → AreGiven (lists_of w.proposers) pairs → IsFree w pairs x → AreGiven (lists_of w.proposers) (pairs ++ x ∷ [])
 one_free w pairs x k f =

@@ -45,19 +45,19 @@ use Rattle.sm_check_clauses.specs.declared.verdicts.Reason.{Reason}
 use Rattle.sm_check_clauses.specs.declared.verdicts.Reason.TheVariants as reason
 use Rattle.sm_check_forms.specs.Layouts.{is_whole}
 use Rattle.sm_check_forms.specs.Forms.{weight_layout, layouts_of, opening_of}
-use Rattle.sm_check_clauses.specs.Said.{first_in, firsts_in, rotation_in, rotations_in, needs_in, all_needs_in, flow_in, flows_in, second_flow_in, taken_in, value_in, second_value_in, pair_in, pairs_in, first_said, is_up_to_rotations}
+use Rattle.sm_check_clauses.specs.Said.{first_in, firsts_in, rotation_in, rotations_in, needs_in, all_needs_in, flow_in, flows_in, second_flow_in, taken_in, value_in, second_value_in, pair_in, pairs_in, first_said, is_up_to_firsts, is_up_to_rotations}
 use Rattle.sm_check_clauses.specs.SeatMatchings.{seat_places_in, first_of}
 use Rattle.sm_check_clauses.specs.Pairs.{IsWanted, AreAllThere}
 use Rattle.sm_check_clauses.specs.Flows.{Level, net_in, on_nodes, flow_of, first_level, second_level, last_level, LevelHolds, set_of_numbers, taken_set, taken_matching}
 use Rattle.sm_check_clauses.specs.Judging.{answer, Clauses}
 use Rattle.sm_check_weight.proofs.SecondLemmas.{second_edges_on_nodes}
-use Rattle.sm_cert.specs.Yes.{ArePairsOf, GetsYes, IsFullFlow, HasLightestWeight, WeightYes}
+use Rattle.sm_cert.specs.Yes.{ArePairsOf, GetsYes, IsChainWritten, IsFullFlow, HasLightestWeight, WeightYes}
 use Rattle.sm_instance.specs.Lightest.{IsLightestByBoth}
 use Rattle.sm_cert.proofs.ChosenYes.{AreWanted, none_wanted, one_wanted, all_wanted}
 use Rattle.sm_cert.proofs.FlowYes.{IsSoundFlow, no_flow, one_flow}
 use Rattle.sm_cert.proofs.GroupLemmas.{AllOut, Begins, Parted, parted_behind, said_up, said_then}
 use Rattle.sm_cert.proofs.RotationLines.{rotation_words, rotations_tell, needs_in-none, first_up, rotation_up, Kind, Spot, left_at, Turns, turns, turns_from}
-use Rattle.sm_cert.proofs.RotationsYes.{IsGround, ground}
+use Rattle.sm_cert.proofs.RotationsYes.{IsGround, HasChain, first_written, ground}
 use Rattle.sm_cert.proofs.SeatYes.{first_words, firsts_tell}
 use Rattle.sm_cert.proofs.WeightLines.{flow_words, flow_tells, is_up_to_flow, is_up_to_flows, total_words, is_up_to_totals, totals_tell, behind_total, behind_flows, behind_rotations, FourLines, four_lines, ThreeLines, three_lines, no_taken_above, no_value_above, no_second_value_above, one_total, one_second_total, flows_parted}
 use Rattle.sm_cert.proofs.YesLines.{IsRight, by_head, right_two, at_line, at_closing, said_above, grown}
@@ -562,9 +562,17 @@ module _ (w : Written) (by : Measure) (lines : List LineData) (i : IsInstance w)
       f : FourLines two lines
       f = four_lines two lines t.splits
 
+      has : HasChain w (answer w (HeadData.Weight by))
+      has = λ above line why h. (h.0, h.1)
+
+      p : Parted is_up_to_firsts lines
+      p = parted_behind firsts_tell {w = w} {head = HeadData.Weight by} (weight_layout two) layout (firsts_begin two) refl g
+
       made : IsGround w lines
-      made =
-          ground w r (λ above line why h. (h.0, h.1)) (parted_behind firsts_tell {w = w} {head = HeadData.Weight by} (weight_layout two) layout (firsts_begin two) refl g) q (is_market (sound_entries i)) (behind_rotations two) (flow_out two) t
+      made = ground w r has p q (is_market (sound_entries i)) (behind_rotations two) (flow_out two) t
+
+      chain : IsChainWritten w lines
+      chain = record { first = first_of w lines; first_written = first_written w r has p; chain = made.chain; one_each = made.one_each; needs = made.needs }
 
       s : IsSeating w (seating_of w)
       s = is_seating (sound_entries i)
@@ -583,6 +591,7 @@ module _ (w : Written) (by : Measure) (lines : List LineData) (i : IsInstance w)
 
       by_level : (b : Bool) → two ≡ b → HasLightestWeight by w lines
       by_level false e = record {
+        chain = chain;
         places = places_by w by d;
         lightest = lightest_in w by s d c false (is_two ∙ e) (last_reach w by lines r is_two f false e);
         total = one_total f ∙ ap (λ (n : ℤ). n ∷ []) (total_is w by lines r is_two f);
@@ -592,14 +601,15 @@ module _ (w : Written) (by : Measure) (lines : List LineData) (i : IsInstance w)
         written = written w by lines r is_two f z;
       }
       by_level true e =
-          let p : Parted is_up_to_flow lines = parted_behind flow_tells {w = w} {head = HeadData.Weight by} (weight_layout true) (layout ∙ ap (λ (b : Bool). weight_layout b ∷ []) e) flow_begins refl g in
+          let u : Parted is_up_to_flow lines = parted_behind flow_tells {w = w} {head = HeadData.Weight by} (weight_layout true) (layout ∙ ap (λ (b : Bool). weight_layout b ∷ []) e) flow_begins refl g in
           let three : ThreeLines f.below = three_lines f.below (subst (λ (b : Bool). is_whole (behind_total b ∷ []) (map opening_of f.below) ≡ true) e f.whole) in
-          let second = second_filled w by lines r is_two f q net e p three in
+          let second = second_filled w by lines r is_two f q net e u three in
           record {
+            chain = chain;
             places = places_by w by d;
             lightest = lightest_in w by s d c true (is_two ∙ e) (second, last_reach w by lines r is_two f true e);
             total = one_total f ∙ ap (λ (n : ℤ). n ∷ []) (total_is w by lines r is_two f);
-            second_total = λ _. one_second_total f three ∙ ap (λ (n : ℤ). n ∷ []) (second_total_is w by lines r is_two f q net e p three);
+            second_total = λ _. one_second_total f three ∙ ap (λ (n : ℤ). n ∷ []) (second_total_is w by lines r is_two f q net e u three);
             flow = as_read (full_flow c.filled);
             second_flow = λ _. subst (λ (d : Read). IsFullFlow (second_net_by w by d) (second_flow_by w by d) (set_by w by d)) (read_all w by lines r is_two f) (full_flow second);
             written = written w by lines r is_two f z;

@@ -6,8 +6,11 @@ use Rattle.std.proofs.lemmas.Bool.{cases_eq, cases_lt}
 use Rattle.std.proofs.lemmas.List.{get_or_append_left, get_or-append-add, get_or_past, get_or_default}
 use Rattle.std.proofs.lemmas.List.Elements.{Contains-append_cases}
 use Rattle.std.proofs.lemmas.Option.{same_Some}
+use Rattle.sm_lists.specs.Rows.{place_on}
 use Rattle.sm_lists.proofs.PlaceLemmas.{get_or-place_on}
 use Rattle.sm_lists.proofs.RowLemmas.{row_in_range}
+use Rattle.sm_instance.specs.Written.{Written, lists_of, place_of as written_place_of}
+use Rattle.sm_instance.proofs.CrossLemmas.{row-lists_of}
 use Rattle.sm_market.specs.Lists.{row, entry, place_of}
 use Rattle.sm_market.specs.Matching.{held}
 use Rattle.sm_pairs.specs.Held.{partner_in}
@@ -91,6 +94,10 @@ one_given rows pairs x k on none = record {
 -- two reviewers with one place on a list, where the first is on it
 pub same_place : (rows : List (List ℕ)) (p r s : ℕ) → place_of rows p s < length (row rows p) → place_of rows p s ≡ place_of rows p r → s ≡ r
 same_place rows p r s l e = sym (get_or-place_on (row rows p) s l) ∙ ap (entry rows p) e ∙ get_or-place_on (row rows p) r (omega (arith, l, e))
+
+-- an agent's place for another, among its list and among all
+pub same_places : (w : Written) (p r : ℕ) → place_of (lists_of w.proposers) p r ≡ written_place_of w.proposers p r
+same_places w p r = ap (λ (list : List ℕ). place_on list r) (row-lists_of w.proposers p)
 
 -- a matched agent is there
 pub held_there : (places : List (Option ℕ)) (p i : ℕ) → held places p ≡ Some i → p < length places

@@ -186,9 +186,11 @@ pub record IsFullFlow (net : Net) (lines : List FlowLine) (set : List Bool) : Ty
   pub is_flow : IsFlow net (amount_on lines)
   pub full : flow_value net (amount_on lines) ≡ cut_of net set
 
--- an allowed stable matching than which none is lighter by both sums, the best for the proposers of those that have its sums, with these;
--- the flow that is written fills the cut of the set that is taken, and in two levels the second flow does so in its second net
+-- the chain with what its rotations need, as in an answer of `rotations`; and an allowed stable matching than which none is lighter by
+-- both sums, the best for the proposers of those that have its sums, with these; the flow that is written fills the cut of the set that
+-- is taken, and in two levels the second flow does so in its second net
 pub record HasLightestWeight (by : Measure) (w : Written) (lines : List LineData) : Type 0 where
+  pub chain : IsChainWritten w lines
   pub places : List (Option ℕ)
   pub lightest : IsLightestByBoth by w places
   pub total : filter_map total_in lines ≡ weight_of by w places ∷ []

@@ -36,13 +36,14 @@ use Rattle.sm_check_forms.specs.Layouts.{begins, is_whole}
 use Rattle.sm_check_forms.specs.Forms.{closing, given_layout, opening_of, fits}
 use Rattle.sm_check_clauses.specs.Said.{pair_in, pairs_in, left_in, lefts_in, right_in, rights_in}
 use Rattle.sm_cert.specs.Yes.{ArePairsOf, IsChosen, MeetYes, JoinYes}
-use Rattle.sm_law_yes.proofs.HeadLemmas.{by_head}
+use Rattle.sm_cert.proofs.YesLines.{by_head}
+use Rattle.sm_cert.proofs.YesPairs.{same_places, held_there, given_there, pair_there}
 use Rattle.sm_law_yes.specs.Reordered.{IsReordered, IsRightButForOrder}
 use Rattle.sm_law_yes.specs.Reordered.IsReordered.{kept}
 use Rattle.sm_law_yes.specs.YesIsRight.{said_texts, MeetIsRight, JoinIsRight}
 use Rattle.sm_law_yes.proofs.ReorderLemmas.{nothing, unmoved, reordered_both}
 use Rattle.sm_law_yes.proofs.LineGroups.{AreOwn, are_own, grouped, closes, IsLineFor, passed, ended, pairs_written, all_said}
-use Rattle.sm_law_yes.proofs.PairLines.{same_places, held_there, given_there, pair_there, IsFirstHeld, first_held, partner_held, written_in_order}
+use Rattle.sm_law_yes.proofs.PairLines.{IsFirstHeld, first_held, partner_held, written_in_order}
 use Rattle.sm_law_yes.proofs.SolveRight.{pair_data, read_pair}
 
 -- The matching that pairs give.

@@ -15,12 +15,13 @@ use Rattle.sm_check_forms.specs.Layouts.{is_whole}
 use Rattle.sm_check_forms.specs.Forms.{solve_layout, parties_layout, opening_of}
 use Rattle.sm_check_clauses.specs.Said.{pairs_in}
 use Rattle.sm_cert.specs.Yes.{IsCoupled, CouplesYes}
-use Rattle.sm_law_yes.proofs.HeadLemmas.{by_head}
+use Rattle.sm_cert.proofs.YesLines.{by_head}
+use Rattle.sm_cert.proofs.YesPairs.{held_there}
 use Rattle.sm_law_yes.specs.Reordered.{IsReordered, IsRightButForOrder}
 use Rattle.sm_law_yes.specs.Reordered.IsReordered.{kept}
 use Rattle.sm_law_yes.specs.YesIsRight.{CouplesAreRight}
 use Rattle.sm_law_yes.proofs.ReorderLemmas.{nothing, AreThose, in_order, reordered_before}
-use Rattle.sm_law_yes.proofs.PairLines.{held_there, proposer_of, numbered_pairs}
+use Rattle.sm_law_yes.proofs.PairLines.{proposer_of, numbered_pairs}
 use Rattle.sm_law_yes.proofs.SolveRight.{pair_data, pairs_and_end}
 
 -- the couple in which a person stands first

@@ -24,7 +24,7 @@ use Rattle.sm_cert.specs.Yes.{GetsYes}
 use Rattle.sm_law_yes.specs.Reordered.{is_free, IsReordered}
 use Rattle.sm_law_yes.specs.Reordered.IsReordered.{none, kept, exchanged, both}
 use Rattle.sm_law_yes.proofs.ReorderLemmas.{nothing}
-use Rattle.sm_law_yes.proofs.HeadLemmas.{by_head}
+use Rattle.sm_cert.proofs.YesLines.{by_head}
 use Rattle.sm_law_yes.proofs.Exchanges.{SeesNoOrder, reordered_hold, holds_each}
 use Rattle.sm_law_yes.proofs.LineGroups.{AreOwn, are_own}
 

@@ -1,5 +1,4 @@
 pub mod ReorderLemmas
-pub mod HeadLemmas
 pub mod LineGroups
 pub mod PairLines
 pub mod SeatLines

@@ -2,11 +2,9 @@
 use Rattle.std.proofs.Common.{◌≡◌, ℕ, suc, ◌<◌, inl, inr, arith, refl, sym, ap, ◌∙◌, cond, true, List, [], ◌∷◌, length, map, get_or, Option, Some, None, subst, eq-eqb, ne_eqb}
 use Rattle.std.specs.Prelude.{Contains}
 use Rattle.std.specs.Option.{option_map}
-use Rattle.std.proofs.lemmas.Bool.{cases_eq, cases_lt}
-use Rattle.std.proofs.lemmas.List.{get_or_default, get_or_past, length-map}
+use Rattle.std.proofs.lemmas.List.{get_or_default, length-map}
 use Rattle.std.proofs.lemmas.Option.{same_Some}
 use Rattle.sm_lists.specs.Pairs.{pair_at}
-use Rattle.sm_lists.specs.Rows.{place_on}
 use Rattle.sm_lists.proofs.PlaceLemmas.{get_or-place_on}
 use Rattle.sm_instance.specs.Written.{Written, lists_of, place_of as written_place_of, entry as written_entry}
 use Rattle.sm_instance.specs.Matching.{IsAssignment}
@@ -21,34 +19,9 @@ use Rattle.sm_answer.specs.Lines.{lines_from}
 use Rattle.sm_answer.proofs.AnswerLemmas.{lines_from-same}
 use Rattle.sm_pairs.specs.Held.{partner_in}
 use Rattle.sm_cert.specs.Yes.{AreApart, ArePairsOf}
+use Rattle.sm_cert.proofs.YesPairs.{same_places, held_there, given_there}
 use Rattle.sm_law_yes.specs.Reordered.{is_free, IsReordered}
-use Rattle.sm_law_yes.proofs.ReorderLemmas.{here, further, first_or_rest, nothing, AreNumbered, AreThose, in_order}
-
--- an agent's place for another, among its list and among all
-pub same_places : (w : Written) (p r : ℕ) → place_of (lists_of w.proposers) p r ≡ written_place_of w.proposers p r
-same_places w p r = ap (λ (list : List ℕ). place_on list r) (row-lists_of w.proposers p)
-
--- a matched agent is there
-pub held_there : (places : List (Option ℕ)) (p i : ℕ) → held places p ≡ Some i → p < length places
-held_there places p i e = elim (cases_lt p (length places)) [
-  | inl inside ↦ inside
-  | inr past ↦ absurd (nothing (sym (get_or_past places p None past) ∙ e))
-]
-
--- whom pairs give somebody stands with it in one of them
-pub given_there : (pairs : List (ℕ × ℕ)) (p r : ℕ) → partner_in pairs p ≡ Some r → Contains pairs (p, r)
-given_there [] p r e = absurd (nothing e)
-given_there (x ∷ pairs) p r e = elim (cases_eq x.0 p) [
-  | inl is ↦
-      let one : Some x.1 ≡ Some r = ap (λ t. cond t (Some x.1) (partner_in pairs p)) (sym (eq-eqb x.0 p is)) ∙ e in
-      let same : x ≡ (p, r) = (λ i. (is i, same_Some _ _ one i)) in
-      subst (Contains (x ∷ pairs)) same (here x pairs)
-  | inr other ↦ further x pairs (p, r) (given_there pairs p r (ap (λ t. cond t (Some x.1) (partner_in pairs p)) (sym (ne_eqb x.0 p other)) ∙ e))
-]
-
--- a pair stands at its place
-pub pair_there : (pairs : List (ℕ × ℕ)) (k : ℕ) → k < length pairs → Contains pairs (pair_at pairs k)
-pair_there pairs k l = (k, l, get_or_default pairs k (pair_at pairs k) (0, 0) l)
+use Rattle.sm_law_yes.proofs.ReorderLemmas.{first_or_rest, nothing, AreNumbered, AreThose, in_order}
 
 -- the number of a pair is that of its proposer
 abbrev pub proposer_of : ℕ × ℕ → ℕ

@@ -30,7 +30,7 @@ use Rattle.sm_check_clauses.specs.Said.{party_in, parties_in}
 use Rattle.sm_check_clauses.specs.Rooming.{members_of}
 use Rattle.sm_check_roommates.proofs.PartyLemmas.{once_least, twice_least}
 use Rattle.sm_cert.specs.Yes.{AreExcludingParties, NoneYes}
-use Rattle.sm_law_yes.proofs.HeadLemmas.{by_head}
+use Rattle.sm_cert.proofs.YesLines.{by_head}
 use Rattle.sm_law_yes.specs.Reordered.{IsReordered, IsRightButForOrder}
 use Rattle.sm_law_yes.specs.Reordered.IsReordered.{kept}
 use Rattle.sm_law_yes.specs.YesIsRight.{PartiesAreRight}

@@ -33,7 +33,7 @@ use Rattle.sm_check_forms.proofs.TakingLemmas.{and_left}
 use Rattle.sm_check_clauses.specs.Said.{first_in, firsts_in, last_in, lasts_in, proposer_list_in, proposer_lists_in, reviewer_list_in, reviewer_lists_in}
 use Rattle.sm_check_clauses.specs.Chain.{owners}
 use Rattle.sm_cert.specs.Yes.{AreAllLists, IsReduced, ReducedYes}
-use Rattle.sm_law_yes.proofs.HeadLemmas.{by_head}
+use Rattle.sm_cert.proofs.YesLines.{by_head}
 use Rattle.sm_law_yes.specs.Reordered.{is_free, IsReordered, IsRightButForOrder}
 use Rattle.sm_law_yes.specs.Reordered.IsReordered.{kept}
 use Rattle.sm_law_yes.specs.YesIsRight.{ReducedIsRight}

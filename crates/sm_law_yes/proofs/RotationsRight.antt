@@ -38,7 +38,7 @@ use Rattle.sm_check_forms.proofs.TakingLemmas.{and_left, and_right}
 use Rattle.sm_check_clauses.specs.Said.{first_in, firsts_in, rotation_in, rotations_in, needs_in, all_needs_in}
 use Rattle.sm_pairs.specs.Held.{partner_in}
 use Rattle.sm_cert.specs.Yes.{IsChainWritten, RotationsYes}
-use Rattle.sm_law_yes.proofs.HeadLemmas.{by_head}
+use Rattle.sm_cert.proofs.YesLines.{by_head}
 use Rattle.sm_law_yes.specs.Reordered.{IsReordered, IsRightButForOrder}
 use Rattle.sm_law_yes.specs.Reordered.IsReordered.{kept}
 use Rattle.sm_law_yes.specs.YesIsRight.{RotationsAreRight}

@@ -16,7 +16,7 @@ use Rattle.sm_check_forms.specs.Layouts.{begins, is_whole}
 use Rattle.sm_check_forms.specs.Forms.{closing, solve_layout, opening_of}
 use Rattle.sm_check_clauses.specs.Said.{pair_in, pairs_in}
 use Rattle.sm_cert.specs.Yes.{IsSideBest, SolveYes}
-use Rattle.sm_law_yes.proofs.HeadLemmas.{by_head}
+use Rattle.sm_cert.proofs.YesLines.{by_head}
 use Rattle.sm_law_yes.specs.Reordered.{IsReordered, IsRightButForOrder}
 use Rattle.sm_law_yes.specs.Reordered.IsReordered.{kept}
 use Rattle.sm_law_yes.specs.YesIsRight.{SolveIsRight}
