@@ -18,7 +18,7 @@ use Rattle.sm_words.specs.declared.jobs.Form.{Form}
 use Rattle.sm_words.specs.declared.jobs.Form.TheVariants.{Text}
 use Rattle.serde_json.specs.Written.{compact_text}
 use Rattle.sm_json.specs.Making.{json_of}
-use Rattle.sm_words.specs.Jobs.{JobData, Solve, Reduced, Rotations, Pairs, Regret, Weight, Meet, Join, Survey, Check, Make, Rest, Median, Route, Export, IsFormFor}
+use Rattle.sm_words.specs.Jobs.{JobData, Solve, Check, Make, Rest, Export, IsFormFor}
 use Rattle.sm_answer_solve.specs.Solution.{IsSolution}
 use Rattle.sm_answer_rotations.specs.NoneAnswer.{IsNoneAllowed}
 use Rattle.sm_report.specs.Heads.{HeadData}
@@ -48,22 +48,12 @@ two_sided Roommates two = absurd (two refl)
 
 takes_two : (job : JobData) (kind : Kind) → reads_input job ≡ true → takes_rooms_alone job ≡ false → kind ≢ Roommates → takes_kind job kind ≡ true
 takes_two (Solve None) kind reading sides two = refl
-takes_two (Solve (Some side)) kind reading sides two = two_sided kind two
-takes_two Reduced kind reading sides two = two_sided kind two
-takes_two Rotations kind reading sides two = two_sided kind two
 takes_two (JobData.List after limit) kind reading sides two = refl
-takes_two Pairs kind reading sides two = two_sided kind two
-takes_two Regret kind reading sides two = two_sided kind two
-takes_two (Weight by) kind reading sides two = two_sided kind two
-takes_two Meet kind reading sides two = two_sided kind two
-takes_two Join kind reading sides two = two_sided kind two
-takes_two (Survey limit) kind reading sides two = two_sided kind two
 takes_two Check kind reading sides two = refl
 takes_two (Make shape size seed summary) kind reading sides two = absurd cc
 takes_two Rest kind reading sides two = absurd cc
-takes_two Median kind reading sides two = two_sided kind two
-takes_two Route kind reading sides two = two_sided kind two
 takes_two Export kind reading sides two = refl
+takes_two _ kind reading sides two = two_sided kind two
 
 -- so their seats alone are judged
 seats_judged : (job : JobData) (read : ReadText) (w : Written) → reads_input job ≡ true → takes_rooms_alone job ≡ false → read.input ≡ Two w → w.kind ≢ Roommates → judged job read ≡ first_refusal (too_many_seats read ∷ []) read
@@ -89,21 +79,7 @@ two_accepted job bytes read w reading sides is two before few = before ∙ seats
 -- a job that takes roommates alone refuses an instance with two sides at its header
 not_two : (job : JobData) (kind : Kind) → takes_rooms_alone job ≡ true → kind ≢ Roommates → takes_kind job kind ≡ false
 not_two Rest kind alone two = ap not (two_sided kind two)
-not_two (Solve side) kind alone two = absurd cc
-not_two Reduced kind alone two = absurd cc
-not_two Rotations kind alone two = absurd cc
-not_two (JobData.List after limit) kind alone two = absurd cc
-not_two Pairs kind alone two = absurd cc
-not_two Regret kind alone two = absurd cc
-not_two (Weight by) kind alone two = absurd cc
-not_two Meet kind alone two = absurd cc
-not_two Join kind alone two = absurd cc
-not_two (Survey limit) kind alone two = absurd cc
-not_two Check kind alone two = absurd cc
-not_two (Make shape size seed summary) kind alone two = absurd cc
-not_two Median kind alone two = absurd cc
-not_two Route kind alone two = absurd cc
-not_two Export kind alone two = absurd cc
+not_two _ kind alone two = absurd cc
 
 pub two_not_taken : (job : JobData) (bytes : List ℕ) (read : ReadText) (w : Written) → reads_input job ≡ true → takes_rooms_alone job ≡ true → read.input ≡ Two w → w.kind ≢ Roommates → accepted job bytes ≡ judged job read
     → IsRefused job bytes (plain_refusal WrongKind read.header_line)

@@ -197,18 +197,17 @@ refused_given job form before after bytes text refusal w given why =
     refused_whole job form before after bytes refusal w (subst (λ (t : Result (List ℕ) RefusalData). IsRefusedIn job t refusal) (sym given) why)
 
 -- a source that was read whole is served by an answer to the text that its bytes give
-pub serves_whole : (tallies : List Shown) (job : JobData) (form : Form) → reads_input job ≡ true → (before after a b : Option (List ℕ)) (f g : ℕ) (bytes text : List ℕ) (r : Result Status Stop) → ReadWhole before after bytes
+pub serves_whole : (tallies : List Shown) (job : JobData) (form : Form) (before after a b : Option (List ℕ)) (f g : ℕ) (bytes text : List ℕ) (r : Result Status Stop) → ReadWhole before after bytes
     → given_text form bytes ≡ Ok text → IfOk r (λ status. Wrote form (IsAnswer tallies job text) a b f g status) → IfOk r (λ status. Serves tallies job form before after a b f g status)
-serves_whole tallies job form reading before after a b f g bytes text (Ok status) w given wrote = record {
+serves_whole tallies job form before after a b f g bytes text (Ok status) w given wrote = record {
   bytes = bytes;
   text = text;
   read = whole_agrees before after bytes w;
   given = given;
   wrote = wrote;
   over = λ _. w.over;
-  untouched = λ none. absurd (true≢false (sym reading ∙ none));
 }
-serves_whole tallies job form reading before after a b f g bytes text (Err e) w given wrote = tt
+serves_whole tallies job form before after a b f g bytes text (Err e) w given wrote = tt
 
 -- From a job to the words that ask for it.
 
@@ -302,9 +301,9 @@ outcome_whole {tallies} words bytes status lines (answered job form text meaning
 
 -- a text was written, and what the source has left
 answers_wrote : {tallies : List Shown} (words : List (List ℕ)) (bytes : List ℕ) (before after a b : Option (List ℕ)) (f g : ℕ) (status : Status) → Agrees before bytes → Wrote (form_of words) (Outcome tallies words bytes) a b f g status
-    → (reads words ≡ true → writes_all_lines status ≡ true → is_too_long status ≡ false → IsReadWhole before after) → (reads words ≡ true → IsBeingRead before after → ⊥) → (reads words ≡ false → after ≡ before)
+    → (reads words ≡ true → writes_all_lines status ≡ true → is_too_long status ≡ false → IsReadWhole before after) → (reads words ≡ true → IsBeingRead before after → ⊥)
     → Answers tallies words before after a b status
-answers_wrote {tallies} words bytes before after a b f g status agrees w read_whole over untouched =
+answers_wrote {tallies} words bytes before after a b f g status agrees w read_whole over =
     record { bytes = bytes; text = w.text; read = agrees; written = w.grows; ends = by_end w.ended } where
       by_end : Ended (form_of words) (Outcome tallies words bytes) w.text f g status → Ends tallies words bytes w.text before after status
       by_end (whole text) =
@@ -316,7 +315,6 @@ answers_wrote {tallies} words bytes before after a b f g status agrees w read_wh
             read_fault = λ is. absurd (let h = ap writes_all_lines is in cc);
             early = λ is r reading. absurd (over r reading);
             read_whole = read_whole;
-            untouched = untouched;
           }
       by_end (sink_failed is front rose) = record {
         whole = λ other. absurd (let h = ap writes_all_lines is in cc);
@@ -325,7 +323,6 @@ answers_wrote {tallies} words bytes before after a b f g status agrees w read_wh
         read_fault = λ other. absurd cc;
         early = λ other r reading. absurd (over r reading);
         read_whole = read_whole;
-        untouched = untouched;
       }
       by_end (no_memory is front) = record {
         whole = λ other. absurd (let h = ap writes_all_lines is in cc);
@@ -334,7 +331,6 @@ answers_wrote {tallies} words bytes before after a b f g status agrees w read_wh
         read_fault = λ other. absurd cc;
         early = λ other r reading. absurd (over r reading);
         read_whole = read_whole;
-        untouched = untouched;
       }
 
 -- a run that serves the job of its words answers them as it promises
@@ -345,7 +341,6 @@ answers_served {tallies} words job form meaning before after a b f g status s =
     (asked_in (λ form. Wrote form (Outcome tallies words s.bytes) a b f g status) words job form meaning
     (wrote_for (IsAnswer tallies job s.text) (Outcome tallies words s.bytes) a b f g status (λ s' lines right. answered job form s.text meaning s.given right) s.wrote))
     (λ r _ _. s.over (sym (reads_of words job form meaning) ∙ r)) (λ r. not_being_read before after (s.over (sym (reads_of words job form meaning) ∙ r)))
-    (λ none. s.untouched (sym (reads_of words job form meaning) ∙ none))
 
 -- a job that reads nothing
 pub serves_unread : {tallies : List Shown} (job : JobData) (form : Form) → reads_input job ≡ false → form ≡ Text → (left a b : Option (List ℕ)) (f g : ℕ) (status : Status)
@@ -357,7 +352,6 @@ serves_unread {tallies} job form none text left a b f g status wrote = record {
   given = ap (λ form. given_text form (bytes_of left)) text;
   wrote = wrote (bytes_of left);
   over = λ some. absurd (true≢false (sym some ∙ none));
-  untouched = λ _. refl;
 }
 
 -- made instances read nothing
@@ -385,8 +379,8 @@ with_whole {form} given gives a b f g status h w = by_end w.ended where
 
 -- nothing was written, for want of memory, or since the source failed
 answers_nothing : {tallies : List Shown} (words : List (List ℕ)) (before after a b : Option (List ℕ)) (status : Status) → (status ≡ OutOfMemory) ⊎ ((status ≡ ReadFault) × (reads words ≡ true)) → b ≡ a
-    → (reads words ≡ false → after ≡ before) → Answers tallies words before after a b status
-answers_nothing {tallies} words before after a b status why same untouched = record {
+    → Answers tallies words before after a b status
+answers_nothing {tallies} words before after a b status why same = record {
   bytes = bytes_of before;
   text = [];
   read = agrees_of before;
@@ -398,7 +392,6 @@ answers_nothing {tallies} words before after a b status why same untouched = rec
     read_fault = λ is. (read_fault why is, refl);
     early = λ _ _ _. refl;
     read_whole = λ _ w. absurd (not_whole why w);
-    untouched = untouched;
   };
 } where
   not_whole : (status ≡ OutOfMemory) ⊎ ((status ≡ ReadFault) × (reads words ≡ true)) → writes_all_lines status ≡ true → ⊥
@@ -428,35 +421,35 @@ answers_faulty {tallies} words word faulty left a b f g status says =
     answers_wrote words (bytes_of left) left left a b f g status (agrees_of left)
     (subst (λ (form : Form). Wrote form (Outcome tallies words (bytes_of left)) a b f g status) (sym (ap form_asked faulty))
     (wrote_for (With (Usage word) (λ lines. lines ≡ usage_line word ∷ [])) (Outcome tallies words (bytes_of left)) a b f g status (λ s lines w. faulty_words word faulty w.same w.given_lines) says))
-    (λ some. absurd (let none = ap asks_to_read faulty in cc)) (λ some. absurd (let none = ap asks_to_read faulty in cc)) (λ _. refl)
+    (λ some. absurd (let none = ap asks_to_read faulty in cc)) (λ some. absurd (let none = ap asks_to_read faulty in cc))
 
 -- a run without memory for its words
 pub answers_unread : {tallies : List Shown} (words : List (List ℕ)) (left a : Option (List ℕ)) → Answers tallies words left left a a OutOfMemory
-answers_unread {tallies} words left a = answers_nothing words left left a a OutOfMemory (inl refl) refl (λ _. refl)
+answers_unread {tallies} words left a = answers_nothing words left left a a OutOfMemory (inl refl) refl
 
 -- so a run that stopped is right
 pub answers_stopped : {tallies : List Shown} (words : List (List ℕ)) (job : JobData) (form : Form) → words_meaning words ≡ Ok (job, form) → (before after a b : Option (List ℕ)) (f g h i : ℕ) (s : Stop) (status : Status)
-    → StopsBy (λ _. ⊥) (IsRefusal job form before after) (IsReadFault job h i) s → (reads_input job ≡ false → after ≡ before) → SaysStop form s a b f g status → Answers tallies words before after a b status
-answers_stopped {tallies} words job form meaning before after a b f g h i (stop.Usage word) status faulty untouched says = absurd faulty
-answers_stopped {tallies} words job form meaning before after a b f g h i (stop.Refused kind at) status r untouched says =
+    → StopsBy (λ _. ⊥) (IsRefusal job form before after) (IsReadFault job h i) s → SaysStop form s a b f g status → Answers tallies words before after a b status
+answers_stopped {tallies} words job form meaning before after a b f g h i (stop.Usage word) status faulty says = absurd faulty
+answers_stopped {tallies} words job form meaning before after a b f g h i (stop.Refused kind at) status r says =
     answers_wrote words r.bytes before after a b f g status r.read
     (asked_in (λ form. Wrote form (Outcome tallies words r.bytes) a b f g status) words job form meaning
     (wrote_for (With (Refused kind at) (λ lines. lines ≡ refused_line (plain_refusal kind at) ∷ [])) (Outcome tallies words r.bytes) a b f g status
     (λ s lines w. refused job form (plain_refusal kind at) meaning r.refused w.same w.given_lines) says))
     (λ reading w short. r.read_whole (sym (reads_of words job form meaning) ∙ reading) (λ is. let same : status ≡ Refused kind at = with_whole (Refused kind at) _ a b f g status w says in let long : is_too_long status ≡ true = ap is_too_long same ∙ ap (λ k. is_too_long (Refused k at)) is in absurd cc))
-    (λ reading. r.over (sym (reads_of words job form meaning) ∙ reading)) (λ none. untouched (sym (reads_of words job form meaning) ∙ none))
-answers_stopped {tallies} words job form meaning before after a b f g h i (stop.Unstable at fields) status told untouched says =
+    (λ reading. r.over (sym (reads_of words job form meaning) ∙ reading))
+answers_stopped {tallies} words job form meaning before after a b f g h i (stop.Unstable at fields) status told says =
     let r = told.0 in
     answers_wrote words r.bytes before after a b f g status r.read
     (asked_in (λ form. Wrote form (Outcome tallies words r.bytes) a b f g status) words job form meaning
     (wrote_for (With (Refused NotStable at) (λ lines. lines ≡ refused_line (with_detail NotStable at (refusal_fields fields)) ∷ [])) (Outcome tallies words r.bytes) a b f g status
     (λ s lines w. refused job form (with_detail NotStable at (refusal_fields fields)) meaning r.refused w.same w.given_lines) says))
     (λ reading w short. r.read_whole (sym (reads_of words job form meaning) ∙ reading) (λ is. absurd cc))
-    (λ reading. r.over (sym (reads_of words job form meaning) ∙ reading)) (λ none. untouched (sym (reads_of words job form meaning) ∙ none))
-answers_stopped {tallies} words job form meaning before after a b f g h i stop.ReadFault status fault untouched says =
-    answers_nothing words before after a b status (inr (says.0, reads_of words job form meaning ∙ fault.reading)) says.1 (λ none. untouched (sym (reads_of words job form meaning) ∙ none))
-answers_stopped {tallies} words job form meaning before after a b f g h i stop.OutOfMemory status none untouched says =
-    answers_nothing words before after a b status (inl says.0) says.1 (λ none. untouched (sym (reads_of words job form meaning) ∙ none))
+    (λ reading. r.over (sym (reads_of words job form meaning) ∙ reading))
+answers_stopped {tallies} words job form meaning before after a b f g h i stop.ReadFault status fault says =
+    answers_nothing words before after a b status (inr (says.0, reads_of words job form meaning ∙ fault.reading)) says.1
+answers_stopped {tallies} words job form meaning before after a b f g h i stop.OutOfMemory status none says =
+    answers_nothing words before after a b status (inl says.0) says.1
 
 -- a run on bytes that aren't refused
 outcome_accepted : {tallies : List Shown} (words : List (List ℕ)) (bytes : List ℕ) (status : Status) (lines : List (List ℕ)) (job : JobData) (form : Form) → words_meaning words ≡ Ok (job, form)

@@ -165,22 +165,13 @@ IsBadGiven (Room persons) texts line refusal = ⊥
 
 -- a job's own refusals of an input that is accepted for it
 abbrev pub IsOwnRefusal : JobData → List ℕ → ReadText → RefusalData → Type 0
-IsOwnRefusal (Solve side) bytes read refusal = ⊥
-IsOwnRefusal Reduced bytes read refusal = ⊥
-IsOwnRefusal Rotations bytes read refusal = ⊥
 IsOwnRefusal (JobData.List after limit) bytes read refusal = IsBadCursor after read.input refusal
-IsOwnRefusal Pairs bytes read refusal = ⊥
-IsOwnRefusal Regret bytes read refusal = ⊥
-IsOwnRefusal (Weight by) bytes read refusal = ⊥
 IsOwnRefusal Meet bytes read refusal = IsBadGiven read.input (texts_from bytes read.rest) read.rest_line refusal
 IsOwnRefusal Join bytes read refusal = IsBadGiven read.input (texts_from bytes read.rest) read.rest_line refusal
-IsOwnRefusal (Survey limit) bytes read refusal = ⊥
-IsOwnRefusal Check bytes read refusal = IsUnreadable read.input (texts_from bytes read.rest) read.rest_line refusal
-IsOwnRefusal (Make shape size seed summary) bytes read refusal = ⊥
-IsOwnRefusal Rest bytes read refusal = ⊥
-IsOwnRefusal Median bytes read refusal = IsTooManyAllowed read.input refusal
 IsOwnRefusal Route bytes read refusal = IsBadGiven read.input (texts_from bytes read.rest) read.rest_line refusal
-IsOwnRefusal Export bytes read refusal = ⊥
+IsOwnRefusal Median bytes read refusal = IsTooManyAllowed read.input refusal
+IsOwnRefusal Check bytes read refusal = IsUnreadable read.input (texts_from bytes read.rest) read.rest_line refusal
+IsOwnRefusal job bytes read refusal = ⊥
 
 -- an input is refused; `make` reads none, and is never refused
 pub data IsRefused (job : JobData) (bytes : List ℕ) (refusal : RefusalData) : Type 0 where

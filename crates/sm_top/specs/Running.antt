@@ -72,9 +72,8 @@ pub record Ends (tallies : List Shown) (words : List (List ℕ)) (bytes text : L
   pub write_fault : status ≡ WriteFault → IsFront (form_of words) (Outcome tallies words bytes) text
   pub read_fault : status ≡ ReadFault → (reads words ≡ true) × (text ≡ [])
   pub early : status ≡ OutOfMemory → reads words ≡ true → IsBeingRead left_before left_after → text ≡ []
-  -- an input is read whole, unless it is too long; where none is asked for, nothing is read
+  -- an input is read whole, unless it is too long
   pub read_whole : reads words ≡ true → writes_all_lines status ≡ true → is_too_long status ≡ false → IsReadWhole left_before left_after
-  pub untouched : reads words ≡ false → left_after ≡ left_before
 
 -- A run with these words and with tallies that showed this: of all the bytes that the source had left, this text was written, which is added to what the sink
 -- held. Where a source or a sink doesn't tell its bytes, there are some of which this is true.

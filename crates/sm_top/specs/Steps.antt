@@ -1,5 +1,5 @@
 -- What is known between the parts of a run.
-use Rattle.std.specs.Prelude.{◌≡◌, ◌≢◌, ℕ, true, false, List, [], ◌∷◌, Option, Ok}
+use Rattle.std.specs.Prelude.{◌≡◌, ◌≢◌, ℕ, true, List, [], ◌∷◌, Option, Ok}
 use Rattle.sm_io.specs.Source.{Agrees}
 use Rattle.sm_io.specs.Faults.{Rose}
 use Rattle.sm_text.specs.declared.refusal.RefusalKind.TheVariants.{TooLong, NotStable}
@@ -26,7 +26,6 @@ pub record Serves (tallies : List Shown) (job : JobData) (form : Form) (left_bef
   pub given : given_text form bytes ≡ Ok text
   pub wrote : Wrote form (IsAnswer tallies job text) held_before held_after before after status
   pub over : reads_input job ≡ true → IsReadWhole left_before left_after
-  pub untouched : reads_input job ≡ false → left_after ≡ left_before
 
 -- the text that an input gives in a form is refused, or it gives none
 pub record IsRefusal (job : JobData) (form : Form) (left_before left_after : Option (List ℕ)) (refusal : RefusalData) : Type 0 where

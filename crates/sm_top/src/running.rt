@@ -1,6 +1,6 @@
 //! The top call.
 
-ghost use Rattle.std.specs.Prelude.{◌≡◌, ◌≤◌, ◌≢◌, ◌∷◌, [], ℕ, List, Ok, IfOk, IfErr, OnErr, length, map, true, false};
+ghost use Rattle.std.specs.Prelude.{◌≡◌, ◌≤◌, ◌∷◌, [], ℕ, List, Ok, IfOk, IfErr, OnErr, length, map, true, false};
 ghost use Rattle.sm_text.specs.Limits.{most_bytes};
 ghost use Rattle.sm_io.specs.Faults.{Rose};
 ghost use Rattle.sm_words.specs.Jobs.{job_of, IsFormFor, IsInBounds};
@@ -102,9 +102,6 @@ pub fn run<S: Source, K: Sink>(
         (K.held sink.old) (K.held sink.new) result }
     ensures accepted { AnswersAccepted (texts words.now) (S.left source.old) result }
     ensures untouched { reads (texts words.now) ≡ false → source.new ≡ source.old }
-    ensures faultless { (¬ Rose (S.faults source.old) (S.faults source.new))
-        → (¬ Rose (K.faults sink.old) (K.faults sink.new))
-        → (result ≢ Status.ReadFault) × (result ≢ Status.WriteFault) }
     ensures read_fault { result ≡ Status.ReadFault
         → Rose (S.faults source.old) (S.faults source.new) }
     ensures write_fault { result ≡ Status.WriteFault
@@ -135,9 +132,6 @@ fn run_job<S: Source, K: Sink>(
         → Answers (map (λ t. shown_as (kind t) (shown t)) tallies.old.items) words
         (S.left source.old) (S.left source.new) (K.held sink.old) (K.held sink.new) result }
     ensures untouched { reads_input (job_of job.now) ≡ false → source.new ≡ source.old }
-    ensures faultless { (¬ Rose (S.faults source.old) (S.faults source.new))
-        → (¬ Rose (K.faults sink.old) (K.faults sink.new))
-        → (result ≢ Status.ReadFault) × (result ≢ Status.WriteFault) }
     ensures read_fault { result ≡ Status.ReadFault
         → Rose (S.faults source.old) (S.faults source.new) }
     ensures write_fault { result ≡ Status.WriteFault

@@ -16,7 +16,7 @@ returns-in_err-text-clause-stop g c =
 
 pub returns-clause-served : goal.returns-clause-served
 returns-clause-served g c =
-    serves_whole _ (job_of c.args.job.now) c.args.form c.requires.reads _ _ _ _ _ _ c.in_ok-bytes.bytes.items c.in_ok-text.text.items c.answer.result c.in_ok-bytes.ensures.whole c.in_ok-text.ensures.text c.answer.ensures.wrote
+    serves_whole _ (job_of c.args.job.now) c.args.form _ _ _ _ _ _ c.in_ok-bytes.bytes.items c.in_ok-text.text.items c.answer.result c.in_ok-bytes.ensures.whole c.in_ok-text.ensures.text c.answer.ensures.wrote
 
 pub returns-clause-stop : goal.returns-clause-stop
 returns-clause-stop g c =

@@ -1,4 +1,3 @@
-use Rattle.std.proofs.Common.{ap}
 use Rattle.sm_words.specs.Jobs.{job_of}
 use Rattle.sm_top.specs.Steps.{IsRefusal, IsReadFault}
 use Rattle.sm_top.proofs.RunLemmas.{answers_served, answers_stopped, plain_stop}
@@ -15,4 +14,4 @@ say_stop-requires g c =
 pub returns-in-Err-clause-answer : goal.returns-in-Err-clause-answer
 returns-in-Err-clause-answer g c words meaning =
     let says = rw c.in-Err.ensures.unwritten at c.say_stop.ensures.says in
-    answers_stopped words (job_of c.args.job.now) c.args.form meaning _ _ _ _ _ _ _ _ c.in-Err.stop c.say_stop.result c.in-Err.ensures.stop (λ none. ap g.S.Source.left (c.in-Err.ensures.untouched none)) says
+    answers_stopped words (job_of c.args.job.now) c.args.form meaning _ _ _ _ _ _ _ _ c.in-Err.stop c.say_stop.result c.in-Err.ensures.stop says
