@@ -1,15 +1,19 @@
--- The stable places of a proposer by its levels in stable matchings of the seats.
-use Rattle.std.proofs.Common.{◌≡◌, ℕ, ◌+◌, ◌-◌, ◌<◌, ◌==◌, ◌++◌, ◌∙◌, Bool, false, List, length, map, [], filter, get_or, unwrap_or, Option, Some, None, refl, sym, ap, subst, arith, inl, inr, Contains}
+-- The stable places of proposers by their levels in stable matchings of the seats, and the lines of these pairs.
+use Rattle.std.proofs.Common.{◌≡◌, ℕ, ◌+◌, ◌-◌, ◌<◌, ◌==◌, ◌++◌, ◌∙◌, Bool, List, length, map, [], ◌∷◌, filter, get_or, unwrap_or, Option, Some, None, refl, sym, ap, subst, arith, inl, inr, Contains}
 use Rattle.std.specs.List.Sorted.{IsStrictlyIncreasing}
-use Rattle.std.specs.List.{flat_map, range_with_len}
+use Rattle.std.specs.List.{flat_map, list_any, range_with_len}
 use Rattle.std.specs.Prelude.{nat_le}
 use Rattle.std.proofs.lemmas.List.{get_or_default, flat_map_more}
 use Rattle.sm_lists.proofs.Counting.{lt_or_le}
 use Rattle.std.proofs.lemmas.Bool.{le-leb, leb-true, eq-eqb, eqb-true}
-use Rattle.std.proofs.lemmas.List.FromFn.{get_or-map-range_with_len, length-map-range_with_len}
+use Rattle.std.proofs.lemmas.Simd.{map-map}
 use Rattle.std.proofs.lemmas.List.Kept.{IsStrictlyIncreasing-filter}
 use Rattle.sm_lists.specs.Rows.{row}
-use Rattle.sm_instance.specs.Written.{Written, row as written_row}
+use Rattle.sm_lists.proofs.RowLemmas.{row_in_range as list_in_range}
+use Rattle.sm_instance.specs.Written.{Written, row as written_row, entry}
+use Rattle.sm_instance.proofs.ListLemmas.{row_in_range}
+use Rattle.sm_report.specs.Heads.{HeadData}
+use Rattle.sm_report.specs.Lines.{LineData}
 use Rattle.sm_instance.specs.Matching.{held, standing}
 use Rattle.sm_instance.specs.Stable.{IsStable}
 use Rattle.sm_seats.specs.Seating.{Seating, written_of, levels_of}
@@ -19,9 +23,10 @@ use Rattle.sm_seats.proofs.PieceLemmas.{range_more}
 use Rattle.sm_market.specs.Lists.{Lists}
 use Rattle.sm_answer_pairs.specs.declared.pairs.StablePair.{StablePair}
 use Rattle.sm_theory.specs.StablePlaces.{AreStableLevels}
-use Rattle.sm_answer_pairs.specs.Partners.{IsStablePlace, IsFixedPlace, pairs_of_proposer, AreStablePairs}
-use Rattle.sm_answer_pairs.specs.Found.{places_of, pairs_at_levels, pairs_by_levels, AreFromOne}
-use Rattle.sm_answer_pairs.proofs.ListLemmas.{kept_in, kept_from, made_in, made_from, less_rises, each_alike}
+use Rattle.sm_answer_pairs.specs.Partners.{IsStablePlace, IsFixedPlace}
+use Rattle.sm_answer_pairs.specs.PairsAnswer.{partner_line, partner_lines, IsPairsAnswer}
+use Rattle.sm_answer_pairs.specs.Found.{line_of_pair, pairs_given, places_of, pair_at, pairs_at_levels, pairs_by_levels, AreFromOne}
+use Rattle.sm_answer_pairs.proofs.ListLemmas.{kept_in, kept_from, made_in, made_from, less_rises, found_in, is_found, kept_is, each_alike, made_of_each}
 
 -- a proposer that stands on its list holds that place
 held_at : (w : Written) (places : List (Option ℕ)) (p i : ℕ) → standing w places p ≡ i → i < length (written_row w.proposers p) → held places p ≡ Some i
@@ -125,28 +130,50 @@ module _ {w : Written} {s : Seating} (h : IsSeating w s) {rows : List (List ℕ)
         omega (arith, few, l)
   ]
 
--- the pairs that are found are the stable pairs
-pub are_stable_pairs : {w : Written} {s : Seating} (h : IsSeating w s) {rows : List (List ℕ)} → AreStableLevels s.market (levels_of s) rows → AreStablePairs w (pairs_by_levels w rows (length w.proposers))
-are_stable_pairs {w} {s} h {rows} a =
+-- a proposer that has a stable partner is one of the instance
+named : {w : Written} {p i : ℕ} → IsStablePlace w p i → p < length w.proposers
+named {w} {p} {i} x = row_in_range w.proposers p _ (x.stable.matching.acceptable p i x.holds).proposer_lists
+
+-- and so is one that has levels
+leveled_named : {w : Written} {s : Seating} (h : IsSeating w s) {rows : List (List ℕ)} → AreStableLevels s.market (levels_of s) rows → (p i : ℕ) → Contains (places_of w p (row rows p)) i → p < length w.proposers
+leveled_named {w} {s} h {rows} a p i c =
+    let m = made_from (λ level. level - 1) _ i c in
+    let k = kept_from (λ level. nat_le level (length (written_row w.proposers p))) (row rows p) m.from m.there in
+    let l = list_in_range rows p k.0.0 k.0.1 in
+    let one = a.one_each in
+    let e = h.proposers in
+    omega (arith, l, one, e)
+
+-- the lines of the pairs that are found are the answer
+pub pairs_right : {w : Written} {s : Seating} (h : IsSeating w s) {rows : List (List ℕ)} → AreStableLevels s.market (levels_of s) rows → IsPairsAnswer w (pairs_given (pairs_by_levels w rows (length w.proposers)))
+pairs_right {w} {s} h {rows} a =
     let n = length w.proposers in
     let places : ℕ → List ℕ = λ p. places_of w p (row rows p) in
-    let one : ℕ → Bool = λ p. length (row rows p) == 1 in
-    let places_at : (p : ℕ) → p < n → row (map places (range_with_len 0 n)) p ≡ places p = λ p l. get_or-map-range_with_len places 0 n p p [] l (omega arith) in
-    let one_at : (p : ℕ) → p < n → get_or (map one (range_with_len 0 n)) p false ≡ one p = λ p l. get_or-map-range_with_len one 0 n p p false l (omega arith) in
+    let is_stable : ℕ → ℕ → Bool = λ p i. list_any (λ x. x == i) (places p) in
+    let is_fixed : ℕ → ℕ → Bool = λ p i. length (row rows p) == 1 in
+    let at_levels : ℕ → List StablePair = λ p. pairs_at_levels w (length (row rows p) == 1) p (row rows p) in
     record {
-      rows = map places (range_with_len 0 n);
-      partners = record {
-        one_each = length-map-range_with_len places 0 n;
-        rising = λ p l. subst IsStrictlyIncreasing (sym (places_at p l)) (places_rise h a p l);
-        exact = λ p i l. (λ c. place_from h a p l i (subst (λ xs. Contains xs i) (places_at p l) c), λ x. subst (λ xs. Contains xs i) (sym (places_at p l)) (place_in h a p l i x));
-      };
-      fixed = map one (range_with_len 0 n);
-      always = λ p i l c.
-          let c' = subst (λ xs. Contains xs i) (places_at p l) c in
-          (λ t. one_fixed h a p l i c' (eqb-true (length (row rows p)) 1 (sym (one_at p l) ∙ t)), λ f. one_at p l ∙ eq-eqb (length (row rows p)) 1 (fixed_one h a p l i c' f));
-      each = each_alike _ _ 0 n (λ p z l.
-          ap (λ xs. pairs_of_proposer w (one p) p xs) (sym (places_at p (omega (arith, l))))
-          ∙ ap (λ b. pairs_of_proposer w b p (row (map places (range_with_len 0 n)) p)) (sym (one_at p (omega (arith, l)))));
+      is_stable = is_stable;
+      is_fixed = is_fixed;
+      stable = λ p i. (
+        (λ t. let c = found_in (places p) i t in place_from h a p (leveled_named h a p i c) i c),
+        λ x. is_found (places p) i (place_in h a p (named x) i x),
+      );
+      fixed = λ p i x.
+          let c = place_in h a p (named x) i x in
+          (λ t. one_fixed h a p (named x) i c (eqb-true (length (row rows p)) 1 t), λ f. eq-eqb (length (row rows p)) 1 (fixed_one h a p (named x) i c f));
+      shows = ap (λ lines. LineData.Answer HeadData.Pairs ∷ (lines ++ LineData.End ∷ [])) (
+          made_of_each line_of_pair at_levels (range_with_len 0 n)
+          ∙ each_alike (λ p. map line_of_pair (at_levels p)) (partner_lines w is_stable is_fixed) 0 n (λ p z l.
+          let here : p < n = omega (arith, l) in
+          map-map line_of_pair (pair_at w (length (row rows p) == 1) p) (places p)
+          ∙ ap (map (λ i. partner_line (length (row rows p) == 1) p (entry w.proposers p i))) (sym (kept_is (is_stable p) 0 (length (written_row w.proposers p)) (places p) (record {
+            rising = places_rise h a p here;
+            has = λ i _ t. found_in (places p) i t;
+            from = λ i c. omega arith;
+            below = λ i c. let x = place_from h a p here i c in let on = x.stable.matching.assigned.on_lists p i x.holds in omega (arith, on);
+            passes = λ i c. is_found (places p) i c;
+          })))));
     }
 
 -- levels of stable matchings begin at 1

@@ -1,10 +1,9 @@
 -- The lines of stable pairs are lines of the instance.
-use Rattle.std.proofs.Common.{◌≡◌, ℕ, zero, suc, ◌+◌, ◌<◌, ◌≤◌, ◌++◌, Bool, true, false, cond, List, [], ◌∷◌, length, map, sym, subst, arith, get_or}
+use Rattle.std.proofs.Common.{◌≡◌, ℕ, zero, suc, ◌+◌, ◌<◌, ◌++◌, Bool, true, false, cond, List, [], ◌∷◌, length, filter, sym, subst, arith, get_or}
 use Rattle.std.specs.List.{All, flat_map, range_with_len}
 use Rattle.std.proofs.lemmas.List.{get_or_default}
 use Rattle.std.proofs.lemmas.List.Elements.{All-append, All-cons, All-map}
-use Rattle.sm_lists.specs.Rows.{row}
-use Rattle.sm_instance.specs.Written.{Written, entry}
+use Rattle.sm_instance.specs.Written.{Written, row, entry}
 use Rattle.sm_instance.specs.declared.inputs.Input.{Input}
 use Rattle.sm_instance.specs.declared.inputs.Input.TheVariants.{Two}
 use Rattle.sm_instance.proofs.ListLemmas.{row_in_range}
@@ -12,16 +11,16 @@ use Rattle.sm_report.specs.Heads.{HeadData}
 use Rattle.sm_report.specs.Lines.{LineData}
 use Rattle.sm_report.specs.Sound.{IsLineOf}
 use Rattle.sm_answer.proofs.LineLemmas.{end_sound}
-use Rattle.sm_answer_pairs.specs.Partners.{IsStablePlace, AreStablePairs}
-use Rattle.sm_answer_pairs.specs.PairsAnswer.{partner_line, pairs_lines}
-use Rattle.sm_answer_pairs.specs.declared.pairs.StablePair.{StablePair}
+use Rattle.sm_answer_pairs.specs.Partners.{IsStablePlace}
+use Rattle.sm_answer_pairs.specs.PairsAnswer.{partner_line, partner_lines, IsPairsAnswer}
+use Rattle.sm_answer_pairs.proofs.ListLemmas.{kept_from}
 
 -- what holds of each list holds of them in turn
-all_each : {X : Type 0} (P : X → Type 0) (f : ℕ → List X) (a n : ℕ) → ((k : ℕ) → a ≤ k → k < a + n → All P (f k)) → All P (flat_map f (range_with_len a n))
-all_each P f a zero each = λ k d l. absurd (omega arith)
-all_each P f a (suc n) each = All-append P (f a) (flat_map f (range_with_len (a + 1) n)) (each a (omega arith) (omega arith)) (all_each P f (a + 1) n (λ k l h. each k (omega arith) (omega arith)))
+all_each : {X : Type 0} (P : X → Type 0) (f : ℕ → List X) → ((k : ℕ) → All P (f k)) → (a n : ℕ) → All P (flat_map f (range_with_len a n))
+all_each P f each a zero = λ k d l. absurd (omega arith)
+all_each P f each a (suc n) = All-append P (f a) (flat_map f (range_with_len (a + 1) n)) (each a) (all_each P f each (a + 1) n)
 
-partner_sound : (w : Written) (fixed : Bool) (p i : ℕ) → IsStablePlace w p i → IsLineOf (Two w) (partner_line (record { proposer = p; reviewer = entry w.proposers p i; fixed = fixed }))
+partner_sound : (w : Written) (fixed : Bool) (p i : ℕ) → IsStablePlace w p i → IsLineOf (Two w) (partner_line fixed p (entry w.proposers p i))
 partner_sound w fixed p i x = choose fixed
   where
     both : (p < length w.proposers) × (entry w.proposers p i < length w.reviewers)
@@ -32,16 +31,18 @@ partner_sound w fixed p i x = choose fixed
     choose false = record { printable = both; seats = λ k d l. absurd (omega arith); numbers = tt; head = tt }
 
 -- the answer of `pairs` has lines of the instance alone
-pub pairs_sound : (input : Input) {w : Written} {pairs : List StablePair} → input ≡ Two w → AreStablePairs w pairs → All (IsLineOf input) (pairs_lines pairs)
-pairs_sound input {w} {pairs} two a =
+pub pairs_sound : (input : Input) {w : Written} {answer : List LineData} → input ≡ Two w → IsPairsAnswer w answer → All (IsLineOf input) answer
+pairs_sound input {w} {answer} two a =
     let P = IsLineOf (Two w) in
-    subst (λ (i : Input). All (IsLineOf i) (pairs_lines pairs)) (sym two)
-    (All-cons P (LineData.Answer HeadData.Pairs) (map partner_line pairs ++ LineData.End ∷ [])
+    let lines = partner_lines w a.is_stable a.is_fixed in
+    subst (λ (i : Input). All (IsLineOf i) answer) (sym two) (subst (All P) (sym a.shows)
+    (All-cons P (LineData.Answer HeadData.Pairs) (flat_map lines (range_with_len 0 (length w.proposers)) ++ LineData.End ∷ [])
     (record { printable = tt; seats = λ k d l. absurd (omega arith); numbers = tt; head = tt })
-    (All-append P (map partner_line pairs) (LineData.End ∷ [])
-    (subst (λ (ps : List StablePair). All P (map partner_line ps)) (sym a.each) (All-map P partner_line _
-    (all_each (λ pair. P (partner_line pair)) _ 0 (length w.proposers) (λ p z l.
-    All-map (λ pair. P (partner_line pair)) _ (row a.rows p) (λ k d h.
-    partner_sound w _ p (get_or (row a.rows p) k d)
-    ((a.partners.exact p (get_or (row a.rows p) k d) (omega (arith, l))).0 (k, h, get_or_default (row a.rows p) k (get_or (row a.rows p) k d) d h)))))))
-    (All-cons P LineData.End [] (end_sound (Two w)) (λ k d l. absurd (omega arith)))))
+    (All-append P (flat_map lines (range_with_len 0 (length w.proposers))) (LineData.End ∷ [])
+    (all_each P lines (λ p.
+    let places = range_with_len 0 (length (row w.proposers p)) in
+    All-map P (λ i. partner_line (a.is_fixed p i) p (entry w.proposers p i)) (filter (a.is_stable p) places) (λ k d l.
+    let i = get_or (filter (a.is_stable p) places) k d in
+    let kept = kept_from (a.is_stable p) places i (k, l, get_or_default (filter (a.is_stable p) places) k i d l) in
+    partner_sound w (a.is_fixed p i) p i ((a.stable p i).0 kept.1))) 0 (length w.proposers))
+    (All-cons P LineData.End [] (end_sound (Two w)) (λ k d l. absurd (omega arith))))))

@@ -7,9 +7,8 @@ ghost use Rattle.sm_answer.specs.Printing.{IsShown};
 ghost use Rattle.sm_instance.specs.declared.inputs.Input.TheVariants.{Two};
 ghost use Rattle.sm_seats.specs.Seating.{seating_of};
 ghost use Rattle.sm_seats.specs.Correspondence.{IsSeating};
-ghost use Rattle.sm_answer_pairs.specs.Partners.{AreStablePairs};
-ghost use Rattle.sm_answer_pairs.specs.PairsAnswer.{partner_line, IsPairsAnswer};
-ghost use Rattle.sm_answer_pairs.specs.Found.{pairs_at_levels, AreFromOne};
+ghost use Rattle.sm_answer_pairs.specs.PairsAnswer.{IsPairsAnswer};
+ghost use Rattle.sm_answer_pairs.specs.Found.{line_of_pair, pairs_given, pairs_at_levels, AreFromOne};
 
 use sm_answer::{Answer, Lines, One, Printed, Then};
 use sm_answer_rotations::Basis;
@@ -43,7 +42,7 @@ pub fn find_pairs(
 ) -> Result<Vec<StablePair>, AllocError>
     requires seats { seats.now ≡ seating_of instance.now }
     requires seating { IsSeating instance.now seats.now }
-    ensures { IfOk result (λ pairs. AreStablePairs instance.now pairs.items) }
+    ensures { IfOk result (λ pairs. IsPairsAnswer instance.now (pairs_given pairs.items)) }
 {
     let basis = Basis::of(alloc, seats)?;
     let levels = seats.levels(alloc)?;
@@ -88,7 +87,7 @@ pub struct PairsLeft<'a>(&'a [StablePair]);
 impl Answer for PairsLeft<'_> {
     ghost use Rattle.std.specs.Prelude.{◌≡◌, map, length};
 
-    ghost gives = { λ left rest. rest ≡ map partner_line left.0.now };
+    ghost gives = { λ left rest. rest ≡ map line_of_pair left.0.now };
 
     ghost most = { λ left. length left.0.now };
 
@@ -105,7 +104,7 @@ impl Answer for PairsLeft<'_> {
 
 /// The line of a pair.
 fn line_for(pair: StablePair) -> Line
-    ensures { line_of result ≡ partner_line pair }
+    ensures { line_of result ≡ line_of_pair pair }
 {
     if pair.fixed {
         Line::AllPair(pair.proposer, pair.reviewer)
@@ -124,7 +123,7 @@ pub fn pairs_lines<'a>(
     pairs: &'a [StablePair],
 ) -> PairsLines<'a>
     requires input { input.now ≡ Two instance.now }
-    requires stable { AreStablePairs instance.now pairs.now }
+    requires found { IsPairsAnswer instance.now (pairs_given pairs.now) }
     ensures right { (lines : List (List ℕ)) → ⟦<PairsLines<'a> as Lines>⟧.gives result lines
         → IsShown input.now (IsPairsAnswer instance.now) lines }
     ensures some { HasRest (⟦<PairsLines<'a> as Lines>⟧.gives result) }

@@ -4,7 +4,7 @@ use Rattle.std.proofs.lemmas.List.{length-map}
 use Rattle.sm_lists.proofs.RowLemmas.{row_read}
 use Rattle.sm_market.specs.Vectors.{rows_of}
 use Rattle.sm_answer_pairs.specs.Found.{AreFromOne, pairs_at_levels}
-use Rattle.sm_answer_pairs.proofs.LevelLemmas.{levels_of_seats, are_from_one, pairs_more, are_stable_pairs}
+use Rattle.sm_answer_pairs.proofs.LevelLemmas.{levels_of_seats, are_from_one, pairs_more, pairs_right}
 use Rattle.sm_answer_pairs.proofs.pairs.find_pairs.Goals as goal
 
 pub push_pairs-requires-clause-from_one : goal.push_pairs-requires-clause-from_one
@@ -28,4 +28,4 @@ pub returns : goal.returns
 returns c =
     let stable = levels_of_seats c.args.seats.now _ _ _ c.in_ok-basis.ensures (ap rows_of c.deref.ensures.value ∙ c.in_ok-levels.ensures) c.in_ok-rows.ensures in
     let whole : c.loop-p.p ≡ length c.args.instance.now.proposers = omega arith in
-    rw (c.loop-p.invariant, whole) (are_stable_pairs c.requires.seating stable)
+    rw (c.loop-p.invariant, whole) (pairs_right c.requires.seating stable)
