@@ -1,6 +1,6 @@
 -- Which lines may stand behind some lines of two given matchings.
-use Rattle.std.proofs.Common.{◌≡◌, ◌≢◌, ℕ, suc, ◌+◌, ◌-◌, ◌<◌, ◌≤◌, ◌++◌, ◌∷◌, [], List, length, map, take, drop, get_or, true, false, Bool, All, refl, sym, ap, ◌∙◌, subst, arith}
-use Rattle.std.proofs.lemmas.List.{append_assoc, append-nil, map-append, length-map, length-append, get_or-map, drop_all}
+use Rattle.std.proofs.Common.{◌≡◌, ◌≢◌, ℕ, suc, ◌+◌, ◌-◌, ◌<◌, ◌≤◌, ◌++◌, ◌∷◌, [], List, length, map, take, drop, get_or, true, false, Bool, All, refl, sym, ap, ◌∙◌, subst, arith, inl, inr}
+use Rattle.std.proofs.lemmas.List.{append_assoc, append-nil, map-append, length-map, length-append, get_or-map, drop_all, take_all}
 use Rattle.std.proofs.lemmas.List.Elements.{All-append, All-map, All-head, All-tail, All-take, All-drop}
 use Rattle.std.proofs.Math.Seq.{take-append_seam, drop-append_seam}
 use Rattle.sm_answer.proofs.AnswerLemmas.{one_all}
@@ -14,7 +14,7 @@ use Rattle.sm_report.specs.Sound.{IsLineOf, ArePair}
 use Rattle.sm_report.specs.Reading.{HasText}
 use Rattle.sm_report.specs.Texts.{text_of_line}
 use Rattle.sm_report.proofs.ReadLemmas.{one_line}
-use Rattle.sm_answer_given.specs.GivenText.{texts_from, left_pair, right_pair, given_lines, ArePairs, AreGiven, AreBegun, IsBadLine, misplaced, missing}
+use Rattle.sm_answer_given.specs.GivenText.{texts_from, left_pair, right_pair, given_lines, ArePairs, AreGiven, AreBegun, IsBadLine}
 use Rattle.sm_answer_given.specs.Taking.{end_so_far, lines_so_far, FitsGroup, AreInTurn, HasPlace, Took, TookText, TakesLine, TakesText}
 use Rattle.sm_answer_given.specs.declared.pairs.Group.{Group}
 use Rattle.sm_answer_given.specs.declared.pairs.Group.TheVariants.{Left, Right, Ended}
@@ -197,17 +197,19 @@ fronts : (input : Input) (pairs : GivenPairs) → All (IsLineOf input) (lines_so
 fronts input pairs sound =
     let there = pairs_there input pairs sound in
     record {
-      left = pairs.left.items;
-      right = pairs.right.items;
       rest = map (text_of_line input) (closing pairs.group);
-      given = record {
-        left_there = there.0;
-        right_there = there.1;
-        spelled =
-            sym (map-append (text_of_line input) (lines_so_far pairs) (closing pairs.group))
-            ∙ ap (map (text_of_line input))
-            (append_assoc (map left_pair pairs.left.items ++ map right_pair pairs.right.items) (end_so_far pairs.group) (closing pairs.group)
-            ∙ ap (λ e. map left_pair pairs.left.items ++ map right_pair pairs.right.items ++ e) (closed pairs.group));
+      all = record {
+        left = pairs.left.items;
+        right = pairs.right.items;
+        given = record {
+          left_there = there.0;
+          right_there = there.1;
+          spelled =
+              sym (map-append (text_of_line input) (lines_so_far pairs) (closing pairs.group))
+              ∙ ap (map (text_of_line input))
+              (append_assoc (map left_pair pairs.left.items ++ map right_pair pairs.right.items) (end_so_far pairs.group) (closing pairs.group)
+              ∙ ap (λ e. map left_pair pairs.left.items ++ map right_pair pairs.right.items ++ e) (closed pairs.group));
+        };
       };
     }
   where
@@ -232,20 +234,24 @@ bad_line input h texts before after text rest turn t cant =
     let one_more : take (suc (length (lines_so_far before))) texts ≡ so_far ++ text ∷ [] =
     ap (take (suc (length (lines_so_far before)))) (t.spelled ∙ sym (append_assoc so_far (text ∷ []) rest))
     ∙ take_front (so_far ++ text ∷ []) rest (suc (length (lines_so_far before))) (let e = length-append so_far (text ∷ []) in omega (arith, e, long)) in
-    misplaced (omega (arith, whole, long)) (subst (AreBegun input) (sym front) (fronts input before t.sound)) (λ b. by_begun (subst (AreBegun input) one_more b))
+    record {
+      before = subst (AreBegun input) (sym front) (fronts input before t.sound);
+      here = inl (omega (arith, whole, long), λ b. by_begun (subst (AreBegun input) one_more b));
+    }
   where
     by_begun : AreBegun input (map (text_of_line input) (lines_so_far before) ++ text ∷ []) → ⊥
     by_begun b =
         let so_far = map (text_of_line input) (lines_so_far before) in
-        let all = given_sound input b.left b.right b.given.left_there b.given.right_there in
-        let p = parse input h (lines_so_far before) (given_lines b.left b.right) (text ∷ b.rest) t.sound all (sym (append_assoc so_far (text ∷ []) b.rest) ∙ b.given.spelled) in
+        let given = b.all.given in
+        let all = given_sound input b.all.left b.all.right given.left_there given.right_there in
+        let p = parse input h (lines_so_far before) (given_lines b.all.left b.all.right) (text ∷ b.rest) t.sound all (sym (append_assoc so_far (text ∷ []) b.rest) ∙ given.spelled) in
         by_line b p.0 p.1 p.2 p.3
       where
-        by_line : (b : AreBegun input (map (text_of_line input) (lines_so_far before) ++ text ∷ [])) (m : List LineData) → given_lines b.left b.right ≡ lines_so_far before ++ m
+        by_line : (b : AreBegun input (map (text_of_line input) (lines_so_far before) ++ text ∷ [])) (m : List LineData) → given_lines b.all.left b.all.right ≡ lines_so_far before ++ m
             → text ∷ b.rest ≡ map (text_of_line input) m → All (IsLineOf input) m → ⊥
         by_line b [] e s a = absurd cc
         by_line b (x ∷ m) e s a =
-            cant x (record { sound = All-head (IsLineOf input) x m a; spelled = (let u : text ≡ text_of_line input x = cc in sym u) }) (has_place before b.left b.right x m turn e)
+            cant x (record { sound = All-head (IsLineOf input) x m a; spelled = (let u : text ≡ text_of_line input x = cc in sym u) }) (has_place before b.all.left b.all.right x m turn e)
 
 -- the text ends where lines are missing
 pub missing_end : (input : Input) → IsInput input → (texts : List (List ℕ)) (pairs : GivenPairs) → AreTaken input texts pairs [] → end_so_far pairs.group ≡ [] → IsBadLine input texts (length (lines_so_far pairs))
@@ -253,7 +259,10 @@ missing_end input h texts pairs t open_still =
     let so_far = map (text_of_line input) (lines_so_far pairs) in
     let same : texts ≡ so_far = t.spelled ∙ append-nil so_far in
     let long = ap length same ∙ length-map (lines_so_far pairs) (text_of_line input) in
-    missing (sym long) (subst (AreBegun input) (sym same) (fronts input pairs t.sound)) (λ l r g. by_given l r g)
+    record {
+      before = subst (AreBegun input) (sym (take_all (length (lines_so_far pairs)) texts (omega (arith, long)) ∙ same)) (fronts input pairs t.sound);
+      here = inr (sym long, λ a. by_given a.left a.right a.given);
+    }
   where
     by_given : (l r : List (ℕ × ℕ)) → AreGiven input texts l r → ⊥
     by_given l r g =

@@ -1,8 +1,9 @@
 -- The text of two given matchings.
-use Rattle.std.specs.Prelude.{◌≡◌, ℕ, suc, ◌+◌, ◌<◌, List, [], ◌∷◌, ◌++◌, length, map, take, drop, All}
+use Rattle.std.specs.Prelude.{◌≡◌, ℕ, ◌+◌, List, [], ◌∷◌, ◌++◌, map, drop, All}
 use Rattle.sm_text.specs.Lines.{lines, content}
 use Rattle.sm_instance.specs.declared.inputs.Input.{Input}
 use Rattle.sm_report.specs.Lines.{LineData}
+use Rattle.sm_report.specs.FirstBad.{IsFirstBad}
 use Rattle.sm_report.specs.Sound.{ArePair}
 use Rattle.sm_report.specs.Texts.{text_of_line}
 
@@ -32,17 +33,20 @@ pub record AreGiven (input : Input) (texts : List (List ℕ)) (left right : List
   pub right_there : ArePairs input right
   pub spelled : texts ≡ map (text_of_line input) (given_lines left right)
 
--- they are the first of such texts
-pub record AreBegun (input : Input) (texts : List (List ℕ)) : Type 0 where
+-- they are those of some pairs
+pub record AreAllGiven (input : Input) (texts : List (List ℕ)) : Type 0 where
   pub left : List (ℕ × ℕ)
   pub right : List (ℕ × ℕ)
+  pub given : AreGiven input texts left right
+
+-- they are the first of such texts
+pub record AreBegun (input : Input) (texts : List (List ℕ)) : Type 0 where
   pub rest : List (List ℕ)
-  pub given : AreGiven input (texts ++ rest) left right
+  pub all : AreAllGiven input (texts ++ rest)
 
 -- the first line, numbered from 0, that can't stand where it stands; or the one behind the last, where lines are missing
-pub data IsBadLine (input : Input) (texts : List (List ℕ)) (k : ℕ) : Type 0 where
-  misplaced : k < length texts → AreBegun input (take k texts) → ¬ AreBegun input (take (suc k) texts) → IsBadLine input texts k
-  missing : k ≡ length texts → AreBegun input texts → ((left right : List (ℕ × ℕ)) → ¬ AreGiven input texts left right) → IsBadLine input texts k
+abbrev pub IsBadLine : Input → List (List ℕ) → ℕ → Type 0
+IsBadLine input texts k = IsFirstBad (AreBegun input) (AreAllGiven input) texts k
 
 -- the line, counted from 1, that is the first bad one of texts, of which the first stands on this line
 pub record IsBadGivenAt (input : Input) (texts : List (List ℕ)) (first_line at : ℕ) : Type 0 where

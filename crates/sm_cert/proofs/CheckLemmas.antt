@@ -1,5 +1,5 @@
 -- From the form of an answer to the clauses that are tried on it.
-use Rattle.std.proofs.Common.{◌≡◌, ℕ, ◌∙◌, arith, refl, sym, ap, subst, Bool, true, false, All, List, [], ◌∷◌, length, get_or, Option, None, Some, eqb-true}
+use Rattle.std.proofs.Common.{◌≡◌, ℕ, ◌≤◌, ◌∙◌, inl, inr, arith, refl, sym, ap, subst, Bool, true, false, All, List, [], ◌∷◌, length, get_or, Option, None, Some, eqb-true}
 use Rattle.std.specs.Prelude.{IfSome}
 use Rattle.std.specs.Option.{option_map}
 use Rattle.std.proofs.lemmas.Bool.{false≢true}
@@ -14,7 +14,7 @@ use Rattle.sm_report.specs.Lines.{LineData}
 use Rattle.sm_report.specs.Sound.{IsLineOf}
 use Rattle.sm_report.specs.Texts.{text_of_line}
 use Rattle.sm_check_clauses.specs.declared.verdicts.Verdict.{Verdict}
-use Rattle.sm_check_forms.specs.Forms.{fits, fits_two, AreAnswer}
+use Rattle.sm_check_forms.specs.Forms.{fits, fits_two, AreAnswer, IsMisplaced}
 use Rattle.sm_check_clauses.specs.Verdicts.{AtLine, IsVerdict}
 use Rattle.sm_check_clauses.specs.Judging.{Subject, answer, couples, parties, Clauses, Holds}
 use Rattle.sm_check_clauses.specs.Judges.{IsOwnLine, input_of}
@@ -35,6 +35,10 @@ own_lines input texts lines a subject is k d inside = record {
 -- an answer has as many lines as texts
 pub as_many : (input : Input) (texts : List (List ℕ)) (lines : List LineData) → AreAnswer input texts lines → length lines ≡ length texts
 as_many input texts lines a = sym (length-map lines (text_of_line input)) ∙ ap length a.read
+
+-- the first bad text is one of them, or stands behind the last
+pub misplaced_within : {input : Input} {texts : List (List ℕ)} {k : ℕ} → IsMisplaced input texts k → k ≤ length texts
+misplaced_within m = elim m.here [ inl h ↦ omega (arith, h.0) | inr h ↦ omega (arith, h.0) ]
 
 -- over two sides the head says which clauses are tried
 pub by_head : (w : Written) (lines : List LineData) (head : HeadData) (first_line : ℕ) (v : Verdict) → first_head lines ≡ Some head

@@ -1,5 +1,5 @@
 -- A text is judged once, and isn't bad then.
-use Rattle.std.proofs.Common.{◌≡◌, ℕ, suc, ◌+◌, ◌<◌, inl, inr, arith, refl, sym, ap, ◌∙◌, subst, cond, Bool, true, false, List, [], ◌∷◌, length, map, take, drop}
+use Rattle.std.proofs.Common.{◌≡◌, ℕ, suc, ◌<◌, inl, inr, arith, refl, sym, ap, ◌∙◌, subst, cond, Bool, true, false, List, [], ◌∷◌, length, map, take, drop}
 use Rattle.std.specs.List.{list_all}
 use Rattle.std.proofs.lemmas.Bool.{false≢true}
 use Rattle.std.proofs.lemmas.List.{take-map, take-take, take-append-drop}
@@ -60,11 +60,9 @@ module _ (input : Input) where
   is_front n (text ∷ texts) lines f = (take (suc n) lines, f)
 
   not_misplaced : (texts : List (List ℕ)) (lines : List LineData) (k : ℕ) → AreAnswer input texts lines → IsMisplaced input texts k → ⊥
-  not_misplaced texts lines k a m = elim (lt_or_le k (length texts)) [
-    | inl less ↦
-        let one : k + 1 ≡ suc k = omega arith in
-        m.here less (subst (λ n. BeginAnAnswer input (take n texts)) (sym one) (is_front k texts lines (front_of_whole k texts lines a)))
-    | inr more ↦ m.missing (omega (arith, more, m.within)) lines a
+  not_misplaced texts lines k a m = elim m.here [
+    | inl h ↦ h.1 (is_front k texts lines (front_of_whole k texts lines a))
+    | inr h ↦ h.1 (lines, a)
   ]
 
   -- so have the first lines of an answer
@@ -87,13 +85,15 @@ module _ (input : Input) where
         },
       )
 
+  none_behind : (texts : List (List ℕ)) (k : ℕ) → IsMisplaced input texts k → length texts < k → ⊥
+  none_behind texts k m past = elim m.here [ inl h ↦ omega (arith, h.0, past) | inr h ↦ omega (arith, h.0, past) ]
+
   -- no text behind a misplaced one is misplaced
   none_later : (texts : List (List ℕ)) (j k : ℕ) → IsMisplaced input texts j → IsMisplaced input texts k → j < k → ⊥
-  none_later texts j k a b less =
-      let one : j + 1 ≡ suc j = omega arith in
-      let within : j < length texts = (let most = b.within in omega arith) in
-      a.here within (subst (λ n. BeginAnAnswer input (take n texts)) (sym one)
-      (subst (BeginAnAnswer input) (take-take (suc j) k texts (omega arith)) (front_begins j (take k texts) b.before)))
+  none_later texts j k a b less = elim a.here [
+    | inl h ↦ h.1 (subst (BeginAnAnswer input) (take-take (suc j) k texts (omega (arith, less))) (front_begins j (take k texts) b.before))
+    | inr h ↦ none_behind texts k b (omega (arith, h.0, less))
+  ]
 
 -- the law that no more than one text is misplaced
 pub one_misplaced : OneMisplaced

@@ -1,5 +1,5 @@
 -- Which lines may stand behind some lines of an answer.
-use Rattle.std.proofs.Common.{◌≡◌, ◌≢◌, ℕ, ◌+◌, ◌-◌, ◌≤◌, ◌∙◌, arith, refl, sym, ap, subst, true, false, Bool, All, List, [], ◌∷◌, ◌++◌, length, map, take, drop, if◌then◌else◌}
+use Rattle.std.proofs.Common.{◌≡◌, ◌≢◌, ℕ, suc, ◌+◌, ◌-◌, ◌≤◌, ◌∙◌, arith, refl, sym, ap, subst, inl, inr, true, false, Bool, All, List, [], ◌∷◌, ◌++◌, length, map, take, drop, if◌then◌else◌}
 use Rattle.std.specs.Prelude.{◌&&◌, filter_map}
 use Rattle.std.specs.List.{list_all}
 use Rattle.std.proofs.lemmas.List.{append_assoc, append-nil, map-append, length-map, length-append, drop_all}
@@ -223,15 +223,16 @@ module _ (input : Input) (h : IsInput input) (texts : List (List ℕ)) (answer :
       → ((line : LineData) → HasText input text line → may_stand input (lines_in answer) line ≡ false) → IsMisplaced input texts (length (lines_in answer))
   bad_line text rest t cant =
       let whole = ap length t.spelled ∙ length-append so_far (text ∷ rest) in
-      let one_more : take (length (lines_in answer) + 1) texts ≡ so_far ++ text ∷ [] =
-      ap (take (length (lines_in answer) + 1)) (t.spelled ∙ sym (append_assoc so_far (text ∷ []) rest))
-      ∙ take_front (so_far ++ text ∷ []) rest (length (lines_in answer) + 1) (let e = length-append so_far (text ∷ []) in omega (arith, e, long)) in
+      let one_more : take (suc (length (lines_in answer))) texts ≡ so_far ++ text ∷ [] =
+      ap (take (suc (length (lines_in answer)))) (t.spelled ∙ sym (append_assoc so_far (text ∷ []) rest))
+      ∙ take_front (so_far ++ text ∷ []) rest (suc (length (lines_in answer))) (let e = length-append so_far (text ∷ []) in omega (arith, e, long)) in
       record {
-        within = omega (arith, whole, long);
         before = front_is (text ∷ rest) t;
-        here = λ _ front. (let f = lines_of_front input (so_far ++ text ∷ []) (some_texts so_far text) (subst (BeginAnAnswer input) one_more front) in
-            not_next text t.sound cant f.0 f.1);
-        missing = λ e. absurd (omega (arith, e, whole, long));
+        here = inl (
+          omega (arith, whole, long),
+          λ front. (let f = lines_of_front input (so_far ++ text ∷ []) (some_texts so_far text) (subst (BeginAnAnswer input) one_more front) in
+              not_next text t.sound cant f.0 f.1),
+        );
       }
 
   -- the text ends where the closing line is missing
@@ -240,10 +241,8 @@ module _ (input : Input) (h : IsInput input) (texts : List (List ℕ)) (answer :
       let same : texts ≡ so_far = t.spelled ∙ append-nil so_far in
       let whole = ap length same ∙ long in
       record {
-        within = omega (arith, whole);
         before = front_is [] t;
-        here = λ l. absurd (omega (arith, l, whole));
-        missing = λ _ lines a. by_rest lines a (parse input h (lines_in answer) lines [] t.sound a.right (append-nil so_far ∙ sym same ∙ sym a.read));
+        here = inr (sym whole, λ a. by_rest a.0 a.1 (parse input h (lines_in answer) a.0 [] t.sound a.1.right (append-nil so_far ∙ sym same ∙ sym a.1.read)));
       }
     where
       by_rest : (lines : List LineData) → AreAnswer input texts lines → IsRest input (lines_in answer) lines [] → ⊥

@@ -1,5 +1,5 @@
 -- The form of an answer: its layouts by its head, and what each of its lines has to be on its own.
-use Rattle.std.specs.Prelude.{◌≡◌, ℕ, suc, ◌+◌, ◌<◌, ◌==◌, nat_lt, nat_le, Bool, true, false, List, [], ◌∷◌, map, take, length, Some, All}
+use Rattle.std.specs.Prelude.{◌≡◌, ℕ, ◌==◌, nat_lt, nat_le, Bool, true, false, List, [], ◌∷◌, map, length, Some, All}
 use Rattle.std.specs.List.{list_all}
 use Rattle.sm_instance.specs.Written.{Written}
 use Rattle.sm_instance.specs.declared.inputs.Input.{Input}
@@ -8,6 +8,7 @@ use Rattle.sm_placed.specs.Levels.{has_two_levels}
 use Rattle.sm_report.specs.Heads.{HeadData}
 use Rattle.sm_report.specs.Lines.{LineData}
 use Rattle.sm_report.specs.Texts.{text_of_line}
+use Rattle.sm_report.specs.FirstBad.{IsFirstBad}
 use Rattle.sm_report.specs.Sound.{seats_in_line, IsLineOf}
 use Rattle.sm_report.specs.declared.keywords.Keyword.{Keyword}
 use Rattle.sm_report.specs.declared.keywords.Keyword.TheVariants as keyword
@@ -182,13 +183,13 @@ abbrev pub BeginAnAnswer : Input → List (List ℕ) → Type 0
 BeginAnAnswer input [] = Unit {0}
 BeginAnAnswer input (text ∷ texts) = (lines : List LineData) × AreFirstLines input (text ∷ texts) lines
 
--- text k is the first that isn't of the form: those before it begin an answer, and with it they don't. Where all of them
--- begin one and aren't a whole one, it is the one that is missing.
-pub record IsMisplaced (input : Input) (texts : List (List ℕ)) (k : ℕ) : Type 0 where
-  pub within : k < suc (length texts)
-  pub before : BeginAnAnswer input (take k texts)
-  pub here : k < length texts → ¬ BeginAnAnswer input (take (k + 1) texts)
-  pub missing : k ≡ length texts → (lines : List LineData) → ¬ AreAnswer input texts lines
+-- the texts are those of an answer
+abbrev pub MakeAnAnswer : Input → List (List ℕ) → Type 0
+MakeAnAnswer input texts = (lines : List LineData) × AreAnswer input texts lines
+
+-- text k is the first that isn't of the form, or the one that is missing behind the last
+abbrev pub IsMisplaced : Input → List (List ℕ) → ℕ → Type 0
+IsMisplaced input texts k = IsFirstBad (BeginAnAnswer input) (MakeAnAnswer input) texts k
 
 -- why no answer is read; want of memory says nothing
 abbrev pub IsAnswerFault : Input → List (List ℕ) → AnswerFault → Type 0

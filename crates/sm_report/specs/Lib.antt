@@ -2,6 +2,7 @@ pub mod Heads
 pub mod Lines
 pub mod Reasons
 pub mod Texts
+pub mod FirstBad
 pub mod Sound
 pub mod Putting
 pub mod Fields

@@ -4,7 +4,7 @@ use Rattle.sm_text.specs.Lines.{lines, content}
 use Rattle.sm_report.specs.Lines.{line_of}
 use Rattle.sm_check_forms.specs.Forms.{IsMisplaced}
 use Rattle.sm_text.proofs.LineLemmas.{length-lines-le}
-use Rattle.sm_cert.proofs.CheckLemmas.{as_many, own_lines}
+use Rattle.sm_cert.proofs.CheckLemmas.{as_many, own_lines, misplaced_within}
 use Rattle.sm_cert.proofs.checking.read_lines.Goals as goal
 
 pub read_answer-requires-clause-few : goal.read_answer-requires-clause-few
@@ -26,6 +26,6 @@ pub overflow_add-result : goal.overflow_add-result
 overflow_add-result c =
     let misplaced : IsMisplaced c.args.input.now (map content (lines c.args.answer.now)) c.in-Err-Misplaced.k =
     rw c.in-Err-Misplaced.field-0-is at c.in-Err-Misplaced.ensures.fault in
-    let within = misplaced.within in
+    let within = misplaced_within misplaced in
     let texts = length-map (lines c.args.answer.now) content in
     omega (arith, within, texts, c.requires.short, c.requires.first_line, length-lines-le c.args.answer.now)
