@@ -13,7 +13,7 @@ use Rattle.sm_instance.proofs.CrossLemmas.{row-lists_of}
 use Rattle.sm_market.specs.Lists.{place_of as place_in_rows}
 use Rattle.sm_theory.specs.declared.choice.Choice.{Choice}
 use Rattle.sm_theory.specs.declared.choice.Choice.TheVariants.{Better, Worse}
-use Rattle.sm_pairs.specs.Held.{partner_in, places_in}
+use Rattle.sm_pairs.specs.Held.{partner_in, places_in, IsFree}
 use Rattle.sm_pairs.specs.Chosen.{chosen_places, head_for}
 use Rattle.sm_pairs.proofs.ChoiceLemmas.{chosen_assigned}
 use Rattle.sm_report.specs.Lines.{LineData}
@@ -23,7 +23,7 @@ use Rattle.sm_check_forms.specs.Keywords.{keyword_number}
 use Rattle.sm_report.specs.Keywords.{keyword_of}
 use Rattle.sm_check_forms.specs.Forms.{layouts_of, given_layout}
 use Rattle.sm_check_clauses.specs.Said.{pair_in, pairs_in, left_in, lefts_in, right_in, rights_in}
-use Rattle.sm_check_clauses.specs.Pairs.{IsFree, IsWanted, AreAllThere}
+use Rattle.sm_check_clauses.specs.Pairs.{IsWanted, AreAllThere}
 use Rattle.sm_check_clauses.specs.Judging.{answer, Clauses}
 use Rattle.sm_check_forms.specs.Laws.{closing_of}
 use Rattle.sm_cert.specs.Yes.{GetsYes, ArePairsOf, IsChosen, MeetYes, JoinYes}

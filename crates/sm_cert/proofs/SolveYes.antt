@@ -13,7 +13,7 @@ use Rattle.sm_instance.specs.Stable.{IsStable, IsBestOf}
 use Rattle.sm_instance.specs.Allowed.{IsAllowed}
 use Rattle.sm_instance.specs.Ranks.{regret_of}
 use Rattle.sm_instance.proofs.CrossLemmas.{row-lists_of}
-use Rattle.sm_pairs.specs.Held.{partner_in, paired_place, places_in}
+use Rattle.sm_pairs.specs.Held.{partner_in, paired_place, places_in, IsFree}
 use Rattle.sm_pairs.proofs.HoldingLemmas.{held_place}
 use Rattle.sm_report.specs.Heads.{HeadData}
 use Rattle.sm_report.specs.Lines.{LineData}
@@ -26,7 +26,6 @@ use Rattle.sm_report.specs.Keywords.{keyword_of}
 use Rattle.sm_check_forms.specs.Forms.{closing, regret_layout, opening_of}
 use Rattle.sm_check_forms.specs.Layouts.{is_whole, begins}
 use Rattle.sm_check_clauses.specs.Said.{pair_in, pairs_in, regret_in, first_said}
-use Rattle.sm_check_clauses.specs.Pairs.{IsFree}
 use Rattle.sm_cert.specs.Yes.{ArePairsOf, SolveYes, RegretYes}
 use Rattle.sm_cert.proofs.GroupLemmas.{Tells, goes, all_down, none_said}
 use Rattle.sm_cert.proofs.YesLines.{right_two, by_head, at_closing, said_above, grown}

@@ -13,12 +13,11 @@ use Rattle.sm_check_clauses.specs.declared.verdicts.Reason.{Reason}
 use Rattle.sm_check_clauses.specs.declared.verdicts.Reason.TheVariants as reason
 use Rattle.sm_check_clauses.specs.Verdicts.{Finds}
 use Rattle.sm_check_clauses.specs.Said.{pair_in, pairs_in, regret_in, first_said}
-use Rattle.sm_pairs.specs.Held.{places_in}
-use Rattle.sm_check_clauses.specs.Pairs.{IsFree}
+use Rattle.sm_pairs.specs.Held.{places_in, IsFree}
 use Rattle.sm_check_clauses.specs.Vectors.{RegretHolds, RegretClauses}
 use Rattle.sm_check_answers.specs.Regrets.{EndOfRegret, AreRegretsKept}
 use Rattle.sm_check_clauses.specs.Walking.{FindsOrKeeps}
-use Rattle.sm_check_clauses.specs.PairsKept.{ArePairsHeld}
+use Rattle.sm_pairs.specs.PairsKept.{ArePairsHeld}
 use Rattle.sm_check_clauses.proofs.AnswerLemmas.{found_by, first_more}
 
 module _ (w : Written) (regret : ℕ) (pairs : List (ℕ × ℕ)) where

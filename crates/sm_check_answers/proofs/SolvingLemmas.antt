@@ -21,8 +21,9 @@ use Rattle.sm_check_clauses.specs.declared.verdicts.Reason.{Reason}
 use Rattle.sm_check_clauses.specs.declared.verdicts.Reason.TheVariants as reason
 use Rattle.sm_check_clauses.specs.Said.{pair_in, pairs_in}
 use Rattle.sm_check_clauses.specs.Walking.{FindsOrKeeps}
-use Rattle.sm_check_clauses.specs.Pairs.{IsFree, SolveHolds}
-use Rattle.sm_check_clauses.specs.PairsKept.{ArePairsHeld}
+use Rattle.sm_pairs.specs.Held.{IsFree}
+use Rattle.sm_check_clauses.specs.Pairs.{SolveHolds}
+use Rattle.sm_pairs.specs.PairsKept.{ArePairsHeld}
 use Rattle.sm_check_answers.specs.Solving.{IsSolveKept}
 
 module _ (w : Written) (side : Side) (pairs : List (ℕ × ℕ)) where

@@ -13,7 +13,7 @@ use Rattle.sm_pairs.specs.Held.{partner_in}
 use Rattle.sm_pairs.specs.Chosen.{chosen_places}
 use Rattle.sm_pairs.specs.declared.holding.Holding.{Holding}
 use Rattle.sm_pairs.proofs.HoldingLemmas.{partner_in-push_same, partner_in-push_other, no_places}
-use Rattle.sm_check_clauses.specs.PairsKept.{ArePairsHeld}
+use Rattle.sm_pairs.specs.PairsKept.{ArePairsHeld}
 use Rattle.sm_check_answers.specs.Stood.{AreStood}
 
 -- one more proposer stands

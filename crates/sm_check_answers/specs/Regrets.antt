@@ -10,7 +10,7 @@ use Rattle.sm_report.specs.Lines.{LineData}
 use Rattle.sm_check_clauses.specs.declared.verdicts.Reason.{Reason}
 use Rattle.sm_check_clauses.specs.declared.verdicts.Reason.TheVariants as reason
 use Rattle.sm_check_clauses.specs.Said.{pairs_in, regret_in}
-use Rattle.sm_check_clauses.specs.PairsKept.{ArePairsHeld}
+use Rattle.sm_pairs.specs.PairsKept.{ArePairsHeld}
 
 -- at the end, of the matching
 abbrev pub EndOfRegret : Written → (regret : ℕ) → List (Option ℕ) → Reason → Type 0

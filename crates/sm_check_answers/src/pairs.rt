@@ -3,7 +3,7 @@
 ghost use Rattle.std.specs.Prelude.{ℕ, ◌<◌, ◌↔◌, List, length, IsTrue};
 ghost use Rattle.sm_instance.specs.Stable.{IsStable};
 ghost use Rattle.sm_pairs.specs.Holding.{IsHolding};
-ghost use Rattle.sm_check_clauses.specs.PairsKept.{ArePairsHeld, Joins};
+ghost use Rattle.sm_pairs.specs.PairsKept.{ArePairsHeld, Joins};
 
 use sm_instance::Instance;
 use sm_pairs::Holding;

@@ -14,7 +14,7 @@ ghost use Rattle.sm_check_clauses.specs.Judging.{answer, Clauses};
 ghost use Rattle.sm_check_answers.specs.Regrets.{EndOfRegret};
 ghost use Rattle.sm_check_clauses.specs.Walking.{FindsOrKeeps};
 ghost use Rattle.sm_instance.specs.Matching.{IsMatching};
-ghost use Rattle.sm_check_clauses.specs.PairsKept.{ArePairsHeld};
+ghost use Rattle.sm_pairs.specs.PairsKept.{ArePairsHeld};
 
 use crate::pairs::joins;
 use sm_check_clauses::{Judge, Reason, Verdict, judge_lines};

@@ -14,7 +14,7 @@ ghost use Rattle.sm_check_clauses.specs.Said.{pairs_in};
 ghost use Rattle.sm_check_clauses.specs.Walking.{FindsOrKeeps};
 ghost use Rattle.sm_check_clauses.specs.Judging.{answer, Clauses};
 ghost use Rattle.sm_check_clauses.specs.Pairs.{SolveHolds};
-ghost use Rattle.sm_check_clauses.specs.PairsKept.{ArePairsHeld};
+ghost use Rattle.sm_pairs.specs.PairsKept.{ArePairsHeld};
 ghost use Rattle.sm_check_clauses.specs.Verdicts.{AtLine, Finds, IsVerdict};
 
 use crate::pairs::joins;

@@ -3,4 +3,3 @@ pub mod LinewiseLemmas
 pub mod SeatPairLemmas
 pub mod WalkLemmas
 pub mod AnswerLemmas
-pub mod PairLemmas

@@ -9,7 +9,6 @@ pub mod Rooming
 pub mod Judging
 pub mod Judges
 pub mod Walking
-pub mod PairsKept
 pub mod SeatPairsKept
 pub mod Walks
 pub mod WalksKept

@@ -1,26 +1,16 @@
 -- The clauses on matchings that an answer writes by pairs of a proposer and a reviewer.
-use Rattle.std.specs.Prelude.{◌≡◌, ℕ, ◌<◌, ◌==◌, List, count_by, Option, None, Some, IsSome, IfSome}
-use Rattle.sm_instance.specs.Written.{Written, place_of, capacity_of, IsAcceptable}
+use Rattle.std.specs.Prelude.{◌≡◌, ℕ, List, Option, None, Some, IsSome, IfSome}
+use Rattle.sm_instance.specs.Written.{Written, place_of}
 use Rattle.sm_instance.specs.Matching.{held}
 use Rattle.sm_instance.specs.Stable.{IsStable, IsBestOf}
 use Rattle.sm_instance.specs.declared.kinds.Side.{Side}
 use Rattle.sm_theory.specs.declared.choice.Choice.{Choice}
 use Rattle.sm_report.specs.Lines.{LineData}
-use Rattle.sm_pairs.specs.Held.{partner_in, places_in}
+use Rattle.sm_pairs.specs.Held.{partner_in, places_in, IsFree}
 use Rattle.sm_pairs.specs.Chosen.{chosen_places}
 use Rattle.sm_check_clauses.specs.declared.verdicts.Reason.{Reason}
 use Rattle.sm_check_clauses.specs.declared.verdicts.Reason.TheVariants as reason
 use Rattle.sm_check_clauses.specs.Said.{pair_in, left_in, right_in, IsEnd}
-
--- in how many pairs b stands second
-abbrev pub times_second : List (ℕ × ℕ) → ℕ → ℕ
-times_second pairs b = count_by (λ (pair : ℕ × ℕ). pair.1 == b) pairs
-
--- a pair may stand behind those before it: it is acceptable, its proposer isn't in one of them, and its reviewer isn't full
-pub record IsFree (w : Written) (before : List (ℕ × ℕ)) (pair : ℕ × ℕ) : Type 0 where
-  pub acceptable : IsAcceptable w pair.0 pair.1
-  pub proposer_free : partner_in before pair.0 ≡ None
-  pub place_free : times_second before pair.1 < capacity_of w.reviewers pair.1
 
 -- `solve`: at a line behind these pairs
 abbrev pub SolveHolds : Written → Side → List (ℕ × ℕ) → LineData → Reason → Type 0

@@ -10,7 +10,7 @@ use Rattle.sm_theory.specs.declared.choice.Choice.{Choice}
 use Rattle.sm_theory.specs.declared.choice.Choice.TheVariants.{Better, Worse}
 use Rattle.sm_report.specs.Heads.{HeadData}
 use Rattle.sm_report.specs.Lines.{LineData}
-use Rattle.sm_pairs.specs.Held.{places_in}
+use Rattle.sm_pairs.specs.Held.{places_in, IsFree}
 use Rattle.sm_pairs.specs.Chosen.{chosen_places}
 use Rattle.sm_pairs.proofs.ChoiceLemmas.{chosen_assigned}
 use Rattle.sm_answer_given.specs.Chosen.{chosen_lines}
@@ -22,7 +22,7 @@ use Rattle.sm_check_forms.specs.Forms.{fits, opening_of, closing, given_layout}
 use Rattle.sm_check_clauses.specs.declared.verdicts.Reason.{Reason}
 use Rattle.sm_check_clauses.specs.declared.verdicts.Reason.TheVariants as reason
 use Rattle.sm_check_clauses.specs.Said.{pair_in, pairs_in, left_in, lefts_in, right_in, rights_in}
-use Rattle.sm_check_clauses.specs.Pairs.{IsFree, IsWanted, AreAllThere, ChosenHold}
+use Rattle.sm_check_clauses.specs.Pairs.{IsWanted, AreAllThere, ChosenHold}
 use Rattle.sm_check_clauses.proofs.LinewiseLemmas.{AllHold, all_hold, hold_append, no_end}
 use Rattle.sm_law_agree.specs.Agree.{GetYes, MeetAgrees, JoinAgrees}
 use Rattle.sm_check_clauses.proofs.AnswerLemmas.{said_same}

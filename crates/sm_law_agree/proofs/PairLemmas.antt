@@ -5,7 +5,6 @@ use Rattle.std.specs.Prelude.{filter_map}
 use Rattle.std.specs.List.{list_all}
 use Rattle.std.specs.Option.{option_map}
 use Rattle.std.proofs.lemmas.Bool.{false≢true}
-use Rattle.std.proofs.lemmas.List.Sums.{sum_by-append}
 use Rattle.std.proofs.lemmas.List.FromFn.{length-map-range_with_len}
 use Rattle.sm_lists.proofs.Counting.{eq_or_ne}
 use Rattle.sm_instance.specs.Written.{Written, entry, place_of}
@@ -15,12 +14,13 @@ use Rattle.sm_instance.proofs.ListLemmas.{row_in_range}
 use Rattle.sm_instance.proofs.LoadLemmas.{load_before-suc}
 use Rattle.sm_instance.proofs.BreachLemmas.{load_mono}
 use Rattle.sm_instance.proofs.PlaceLemmas.{place_of-entry}
-use Rattle.sm_pairs.specs.Held.{partner_in, paired_place, places_in}
+use Rattle.sm_pairs.specs.Held.{partner_in, paired_place, places_in, times_second, IsFree}
 use Rattle.sm_pairs.proofs.HoldingLemmas.{partner_in-push_same, partner_in-push_other, held_place}
+use Rattle.sm_pairs.proofs.PairLemmas.{times_second-push}
 use Rattle.sm_report.specs.Lines.{LineData}
 use Rattle.sm_answer.specs.Lines.{line_or_none, lines_from}
 use Rattle.sm_check_clauses.specs.declared.verdicts.Reason.{Reason}
-use Rattle.sm_check_clauses.specs.Pairs.{times_second, IsFree, IsWanted, AreAllThere}
+use Rattle.sm_check_clauses.specs.Pairs.{IsWanted, AreAllThere}
 use Rattle.sm_check_clauses.proofs.AnswerLemmas.{said_one}
 use Rattle.sm_law_agree.proofs.LineLemmas.{Steps, Held, numbers_hold, numbers_pass}
 
@@ -38,11 +38,6 @@ pub record AreBelow (w : Written) (places : List (Option ℕ)) (p : ℕ) (pairs 
 pub none_below : (w : Written) (places : List (Option ℕ)) → AreBelow w places 0 []
 none_below w places = record { below = λ q l. absurd (omega (arith, l)); past = λ q l. refl; times = λ r. refl }
 
-times_more : (pairs : List (ℕ × ℕ)) (x : ℕ × ℕ) (r : ℕ) → times_second (pairs ++ x ∷ []) r ≡ times_second pairs r + cond (x.1 == r) 1 0
-times_more pairs x r =
-    sum_by-append (λ (y : ℕ × ℕ). cond (y.1 == r) 1 0) pairs (x ∷ [])
-    ∙ (let e : times_second pairs r + (0 + cond (x.1 == r) 1 0) ≡ times_second pairs r + cond (x.1 == r) 1 0 = omega arith in e)
-
 module _ {w : Written} {places : List (Option ℕ)} {p : ℕ} {pairs : List (ℕ × ℕ)} (k : AreBelow w places p pairs) where
   -- who is matched has a pair
   pub one_below : (i : ℕ) → held places p ≡ Some i → AreBelow w places (p + 1) (pairs ++ (p, entry w.proposers p i) ∷ [])
@@ -56,7 +51,7 @@ module _ {w : Written} {places : List (Option ℕ)} {p : ℕ} {pairs : List (ℕ
         ];
         past = λ q l. partner_in-push_other pairs p r q none (λ e. omega (arith, l, e)) ∙ k.past q (omega (arith, l));
         times = λ s.
-            times_more pairs (p, r) s ∙ ap (λ n. n + cond (r == s) 1 0) (k.times s)
+            times_second-push pairs p r s ∙ ap (λ n. n + cond (r == s) 1 0) (k.times s)
             ∙ sym (load_before-suc w places p s ∙ ap (λ o. load_before w places p s + cond (leads_to w p s o) 1 0) e);
       }
 

@@ -41,7 +41,7 @@ use Rattle.sm_answer_rotations.specs.RotationAnswer.{IsRotationAnswer}
 use Rattle.sm_answer_rotations.proofs.ShownLemmas.{correspondence}
 use Rattle.sm_answer_pairs.specs.RegretAnswer.{IsLeastRegret}
 use Rattle.sm_answer_pairs.specs.PairsAnswer.{IsPairsAnswer}
-use Rattle.sm_pairs.specs.Held.{CantJoin, IsBreach, GiveStable}
+use Rattle.sm_pairs.specs.Held.{CanHold, GiveStable}
 use Rattle.sm_answer_given.specs.GivenText.{AreGiven}
 use Rattle.sm_answer_roommates.specs.Witnesses.{odd_parties}
 use Rattle.sm_answer_roommates.proofs.WitnessLemmas.{odd_parties_shown}
@@ -122,14 +122,9 @@ listing = record {
     none v one b = let same = subst (IsBefore (order_of w) (1 ∷ [])) (sym (only_vector v one)) b in omega (arith, same.smaller)
 
 -- the pair that is given
-can_hold : (k : ℕ) → ¬ IsBreach w ((0, 0) ∷ []) k
-can_hold zero b = go b.cause
-  where
-    go : CantJoin w [] 0 0 → ⊥
-    go (CantJoin.unacceptable h) = h acceptable
-    go (CantJoin.taken h) = false≢true h
-    go (CantJoin.full h) = omega (arith, h)
-can_hold (suc k) b = let l = b.in_range in omega (arith, l)
+can_hold : CanHold w ((0, 0) ∷ [])
+can_hold zero l = record { acceptable = acceptable; proposer_free = refl; place_free = omega arith }
+can_hold (suc k) l = absurd (omega (arith, l))
 
 gives_stable : GiveStable w ((0, 0) ∷ [])
 gives_stable = record { can_hold = can_hold; stable = stable }

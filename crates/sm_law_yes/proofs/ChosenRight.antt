@@ -18,11 +18,11 @@ use Rattle.sm_instance.proofs.LoadLemmas.{load_before-suc, at_place, place_at, t
 use Rattle.sm_market.specs.Lists.{entry as entry_in_rows}
 use Rattle.sm_theory.specs.declared.choice.Choice.{Choice}
 use Rattle.sm_theory.specs.declared.choice.Choice.TheVariants.{Better, Worse}
-use Rattle.sm_pairs.specs.Held.{partner_in, paired_place, places_in, CantJoin, CanHold, GiveStable}
-use Rattle.sm_pairs.specs.Held.CantJoin.{unacceptable, taken, full}
+use Rattle.sm_pairs.specs.Held.{partner_in, paired_place, places_in, IsFree, AreFree, CanHold, GiveStable}
 use Rattle.sm_pairs.specs.Chosen.{chosen_places, head_for}
 use Rattle.sm_pairs.proofs.ChoiceLemmas.{chosen_assigned}
 use Rattle.sm_pairs.proofs.HoldingLemmas.{held_place}
+use Rattle.sm_pairs.proofs.PairLemmas.{counted, free_more}
 use Rattle.sm_report.specs.Lines.{LineData}
 use Rattle.sm_report.specs.Sound.{IsLineOf, ArePair}
 use Rattle.sm_report.specs.declared.keywords.Keyword.{Keyword}
@@ -170,21 +170,29 @@ module _ {w : Written} {places : List (Option ℕ)} {pairs : List (ℕ × ℕ)} 
                 let long = length-map-range_with_len (paired_place w front) 0 (length w.proposers) in
                 absurd (nothing (sym (ap (option_map (place_of w.proposers q)) none) ∙ sym (held_place w front q (omega (arith, l, long))) ∙ e))
 
-    no_breach : CantJoin w front p r → ⊥
-    no_breach (unacceptable not) =
-        let d = paired p r (pair_there pairs k inside) in
-        not (subst (IsAcceptable w p) d.names (m.acceptable p (place_of w.proposers p r) d.holds))
-    no_breach (taken some) = false≢true (subst IsSome not_before some)
-    no_breach (full most) =
+    -- so it may stand behind them, where they can be held
+    free_behind : AreFree w pairs k → IsFree w front (p, r)
+    free_behind earlier =
         let d = paired p r (pair_there pairs k inside) in
         let there = held_there places p (place_of w.proposers p r) d.holds in
         let one = m.assigned.one_each in
         let room = room_left (length w.proposers) (omega (arith, there, one)) in
         let within = m.within r in
-        omega (arith, most, room, within)
+        let count = counted w pairs k (omega (arith, inside)) earlier r in
+        record {
+          acceptable = subst (IsAcceptable w p) d.names (m.acceptable p (place_of w.proposers p r) d.holds);
+          proposer_free = not_before;
+          place_free = omega (arith, count, room, within);
+        }
+
+  first_free : (n : ℕ) → n ≤ length pairs → AreFree w pairs n
+  first_free zero le j l = absurd (omega (arith, l))
+  first_free (suc n) le j l =
+      let below = first_free n (omega (arith, le)) in
+      free_more w pairs n below (free_behind n (omega (arith, le)) below) j (omega (arith, l))
 
   can_hold : CanHold w pairs
-  can_hold k b = no_breach k b.in_range b.cause
+  can_hold = first_free (length pairs) (omega arith)
 
 -- two stable matchings whose pairs are given can be held
 give_stable : {w : Written} {places : List (Option ℕ)} {pairs : List (ℕ × ℕ)} → IsInstance w → IsStable w places → ArePairsOf (lists_of w.proposers) places pairs → GiveStable w pairs

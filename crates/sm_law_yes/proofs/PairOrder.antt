@@ -9,7 +9,7 @@ use Rattle.sm_instance.specs.Allowed.{IsAllowed}
 use Rattle.sm_instance.specs.Ranks.{regret_of}
 use Rattle.sm_instance.specs.declared.kinds.Side.{Side}
 use Rattle.sm_theory.specs.declared.choice.Choice.{Choice}
-use Rattle.sm_pairs.specs.Held.{places_in}
+use Rattle.sm_pairs.specs.Held.{places_in, IsFree}
 use Rattle.sm_pairs.specs.Chosen.{chosen_places}
 use Rattle.sm_report.specs.Heads.{HeadData}
 use Rattle.sm_report.specs.Lines.{LineData}
@@ -19,7 +19,7 @@ use Rattle.sm_check_forms.specs.Keywords.{is_same}
 use Rattle.sm_check_clauses.specs.declared.verdicts.Reason.{Reason}
 use Rattle.sm_check_clauses.specs.declared.verdicts.Reason.TheVariants as reason
 use Rattle.sm_check_clauses.specs.Said.{pair_in, pairs_in, left_in, lefts_in, right_in, rights_in, regret_in}
-use Rattle.sm_check_clauses.specs.Pairs.{IsFree, SolveHolds, ChosenHold, IsWanted, AreAllThere}
+use Rattle.sm_check_clauses.specs.Pairs.{SolveHolds, ChosenHold, IsWanted, AreAllThere}
 use Rattle.sm_check_clauses.specs.Vectors.{RegretClauses}
 use Rattle.sm_check_clauses.specs.Judging.{answer, Clauses}
 use Rattle.sm_check_clauses.proofs.AnswerLemmas.{said_same}

@@ -13,7 +13,8 @@ use Rattle.sm_report.specs.declared.keywords.Keyword.{Keyword}
 use Rattle.sm_report.specs.Keywords.{keyword_of}
 use Rattle.sm_check_forms.specs.Keywords.{is_same}
 use Rattle.sm_check_forms.proofs.TakingLemmas.{and_left, and_right}
-use Rattle.sm_check_clauses.specs.Pairs.{IsFree, IsWanted}
+use Rattle.sm_pairs.specs.Held.{IsFree}
+use Rattle.sm_check_clauses.specs.Pairs.{IsWanted}
 use Rattle.sm_check_clauses.specs.SeatMatchings.{IsFreeSeat}
 use Rattle.sm_check_clauses.specs.Said.{IsFirstBehind, IsEnd}
 use Rattle.sm_check_clauses.proofs.AnswerLemmas.{said_same, said_one}

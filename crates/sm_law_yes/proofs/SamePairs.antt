@@ -8,8 +8,9 @@ use Rattle.std.proofs.lemmas.List.Sums.{sum_by-append}
 use Rattle.sm_instance.specs.Written.{Written, place_of, capacity_of}
 use Rattle.sm_market.specs.Lists.{Lists, place_of as market_place_of, agents}
 use Rattle.sm_theory.specs.Lattice.{with_proposers}
-use Rattle.sm_pairs.specs.Held.{partner_in, places_in}
-use Rattle.sm_check_clauses.specs.Pairs.{times_second, IsFree, IsWanted, AreAllThere}
+use Rattle.sm_pairs.specs.Held.{partner_in, places_in, times_second, IsFree}
+use Rattle.sm_pairs.proofs.PairLemmas.{times_second-push}
+use Rattle.sm_check_clauses.specs.Pairs.{IsWanted, AreAllThere}
 use Rattle.sm_check_clauses.specs.SeatMatchings.{IsFreeSeat, seat_places_in}
 use Rattle.sm_check_roommates.proofs.CoupleLemmas.{partner_in-append}
 
@@ -33,7 +34,7 @@ same_more {xs} {ys} s zs = record {
 }
 
 times_one : (xs : List (ℕ × ℕ)) (a : ℕ × ℕ) (r : ℕ) → times_second (xs ++ a ∷ []) r ≡ times_second xs r + cond (a.1 == r) 1 0
-times_one xs a r = times_append xs (a ∷ []) r ∙ (let e : times_second xs r + (0 + cond (a.1 == r) 1 0) ≡ times_second xs r + cond (a.1 == r) 1 0 = omega arith in e)
+times_one xs a r = times_second-push xs a.0 a.1 r
 
 partner_one : (xs : List (ℕ × ℕ)) (a : ℕ × ℕ) (p : ℕ) → partner_in (xs ++ a ∷ []) p ≡ option_or (partner_in xs p) (cond (a.0 == p) (Some a.1) None)
 partner_one xs a p = partner_in-append xs (a ∷ []) p

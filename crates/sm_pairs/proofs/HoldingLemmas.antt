@@ -1,5 +1,5 @@
 -- The matching that pairs make, and one more pair.
-use Rattle.std.proofs.Common.{◌≡◌, ◌≢◌, ℕ, zero, suc, ◌+◌, ◌<◌, ◌≤◌, ◌==◌, ◌⊎◌, ◌++◌, ◌∷◌, [], cond, Bool, true, false, List, Option, Some, None, length, map, get_or, set, take, replicate, refl, sym, ap, ◌∙◌, subst, arith, ⊎_elim, inl, inr, IsSome}
+use Rattle.std.proofs.Common.{◌≡◌, ◌≢◌, ℕ, zero, suc, ◌+◌, ◌<◌, ◌≤◌, ◌==◌, ◌⊎◌, ◌++◌, ◌∷◌, [], cond, Bool, true, false, List, Option, Some, None, length, map, get_or, set, replicate, refl, sym, ap, ◌∙◌, subst, arith, ⊎_elim, inl, inr, IsSome}
 use Rattle.std.specs.List.{range_with_len}
 use Rattle.std.specs.Option.{option_map, is_some}
 use Rattle.std.proofs.lemmas.Bool.{eqb-true, eqb-false, eq-eqb, ne_eqb, cases_lt}
@@ -9,11 +9,8 @@ use Rattle.std.proofs.lemmas.List.FromFn.{length-map-range_with_len, get_or-map-
 use Rattle.sm_instance.specs.Written.{Written, row, entry, place_of, capacity_of, IsAcceptable}
 use Rattle.sm_instance.specs.Matching.{held, leads_to, is_at, load_before, load, IsMatching}
 use Rattle.sm_instance.proofs.LoadLemmas.{load_before-suc}
-use Rattle.std.proofs.Math.Seq.{take-suc}
-use Rattle.sm_pairs.specs.Held.{partner_in, paired_place, places_in, CantJoin, IsBreach}
-use Rattle.sm_lists.specs.Pairs.{pair_at}
-use Rattle.sm_pairs.specs.Holding.{loads_of, CantAdd, Added}
-use Rattle.sm_pairs.specs.declared.holding.Holding.{Holding}
+use Rattle.sm_pairs.specs.Held.{partner_in, paired_place, places_in}
+use Rattle.sm_pairs.specs.Holding.{loads_of}
 
 -- a list by numbers in which one item is changed
 alike : {X : Type 0} (f g : ℕ → X) (a n : ℕ) → ((q : ℕ) → a ≤ q → g q ≡ f q) → map f (range_with_len a n) ≡ map g (range_with_len a n)
@@ -188,7 +185,8 @@ no_place w p = each 0 (length w.proposers) p
     each a (suc n) zero = refl
     each a (suc n) (suc p) = each (a + 1) n p
 
-no_load : (w : Written) (k r : ℕ) → load_before w (places_in w []) k r ≡ 0
+-- nobody makes no load
+pub no_load : (w : Written) (k r : ℕ) → load_before w (places_in w []) k r ≡ 0
 no_load w zero r = refl
 no_load w (suc k) r =
     ap (λ n. load_before w (places_in w []) n r) (let e : suc k ≡ k + 1 = omega arith in e)
@@ -246,39 +244,3 @@ none_there places p o l e none = sym (read_place places p o l e) ∙ by_case o n
     by_case : (o : Option ℕ) → is_some o ≡ false → o ≡ None
     by_case None h = refl
     by_case (Some i) h = absurd cc
-
--- the pairs up to one more
-pub pairs_more : (w : Written) (pairs : List (ℕ × ℕ)) (before after : Holding) (k p r : ℕ) → k < length pairs → pair_at pairs k ≡ (p, r) → p < length w.proposers
-    → before.matching.places.items ≡ places_in w (take k pairs) → Added w before after p r → after.matching.places.items ≡ places_in w (take (k + 1) pairs)
-pairs_more w pairs before after k p r l pair p_in places a =
-    a.places
-    ∙ ap (λ xs. set xs p (Some (place_of w.proposers p r))) places
-    ∙ places_later w (take k pairs) p r (partner_in-none w (take k pairs) p p_in (ap (λ xs. held xs p) (sym places) ∙ a.free))
-    ∙ ap (λ (x : ℕ × ℕ). places_in w (take k pairs ++ x ∷ [])) (sym pair)
-    ∙ ap (places_in w) (sym (take-suc pairs k (0, 0) l))
-    ∙ ap (λ n. places_in w (take n pairs)) (let e : suc k ≡ k + 1 = omega arith in e)
-
--- a pair that can't be added is a breach, and one that was added is none
-pub is_breach : (w : Written) (pairs : List (ℕ × ℕ)) (places : List (Option ℕ)) (k p r : ℕ) → k < length pairs → pair_at pairs k ≡ (p, r) → p < length w.proposers
-    → places ≡ places_in w (take k pairs) → CantAdd w places p r → IsBreach w pairs k
-is_breach w pairs places k p r l pair p_in same cant = record { in_range = l; cause = subst (λ (x : ℕ × ℕ). CantJoin w (take k pairs) x.0 x.1) (sym pair) (by_cause cant) }
-  where
-    by_cause : CantAdd w places p r → CantJoin w (take k pairs) p r
-    by_cause (CantAdd.unacceptable h) = CantJoin.unacceptable h
-    by_cause (CantAdd.taken h) = CantJoin.taken (some_given w (take k pairs) p p_in (subst (λ xs. IsSome (held xs p)) same h))
-    by_cause (CantAdd.full h) = CantJoin.full (subst (λ xs. capacity_of w.reviewers r ≤ load w xs r) same h)
-
--- once a pair was added there is no breach up to it, where there was none before it
-pub none_more : (w : Written) (pairs : List (ℕ × ℕ)) (before after : Holding) (k p r : ℕ) → k < length pairs → pair_at pairs k ≡ (p, r) → p < length w.proposers
-    → before.matching.places.items ≡ places_in w (take k pairs) → Added w before after p r → ((j : ℕ) → j < k → ¬ IsBreach w pairs j) → (j : ℕ) → j < k + 1 → ¬ IsBreach w pairs j
-none_more w pairs before after k p r l pair p_in same a none j lt b = ⊎_elim
-    (λ below. none j below b)
-    (λ ge. let e : j ≡ k = omega (arith, ge, lt) in by_cause (subst (λ (x : ℕ × ℕ). CantJoin w (take k pairs) x.0 x.1) pair (subst (λ n. CantJoin w (take n pairs) (pair_at pairs n).0 (pair_at pairs n).1) e b.cause)))
-    (cases_lt j k)
-  where
-    by_cause : CantJoin w (take k pairs) p r → ⊥
-    by_cause (CantJoin.unacceptable h) = h a.acceptable
-    by_cause (CantJoin.taken h) =
-        let e = partner_in-none w (take k pairs) p p_in (ap (λ xs. held xs p) (sym same) ∙ a.free) in
-        let s = subst IsSome e h in cc
-    by_cause (CantJoin.full h) = let room = subst (λ xs. load w xs r < capacity_of w.reviewers r) same a.room in omega (arith, h, room)

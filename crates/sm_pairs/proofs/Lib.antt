@@ -1,3 +1,4 @@
 pub mod HoldingLemmas
+pub mod PairLemmas
 pub mod GainLemmas
 pub mod ChoiceLemmas

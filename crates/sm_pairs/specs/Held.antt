@@ -1,10 +1,9 @@
 -- The matching that pairs give, and what keeps it from being a stable one.
-use Rattle.std.specs.Prelude.{ℕ, ◌<◌, ◌≤◌, ◌==◌, if◌then◌else◌, List, [], ◌∷◌, length, map, take, Option, Some, None, IsSome}
+use Rattle.std.specs.Prelude.{◌≡◌, ℕ, ◌<◌, ◌==◌, if◌then◌else◌, List, [], ◌∷◌, length, map, take, count_by, Option, Some, None}
 use Rattle.std.specs.List.{range_with_len}
 use Rattle.std.specs.Option.{option_map}
 use Rattle.sm_lists.specs.Pairs.{pair_at}
 use Rattle.sm_instance.specs.Written.{Written, place_of, capacity_of, IsAcceptable}
-use Rattle.sm_instance.specs.Matching.{load}
 use Rattle.sm_instance.specs.Stable.{IsStable}
 
 -- the reviewer that pairs give a proposer, if they give it one
@@ -20,25 +19,29 @@ paired_place w pairs p = option_map (place_of w.proposers p) (partner_in pairs p
 abbrev pub places_in : Written → List (ℕ × ℕ) → List (Option ℕ)
 places_in w pairs = map (paired_place w pairs) (range_with_len 0 (length w.proposers))
 
--- a pair can't be held beside those before it: it isn't acceptable, they give its proposer a reviewer, or they fill its reviewer
-pub data CantJoin (w : Written) (before : List (ℕ × ℕ)) (p r : ℕ) : Type 0 where
-  unacceptable : ¬ IsAcceptable w p r → CantJoin w before p r
-  taken : IsSome (partner_in before p) → CantJoin w before p r
-  full : capacity_of w.reviewers r ≤ load w (places_in w before) r → CantJoin w before p r
+-- in how many pairs b stands second
+abbrev pub times_second : List (ℕ × ℕ) → ℕ → ℕ
+times_second pairs b = count_by (λ (pair : ℕ × ℕ). pair.1 == b) pairs
 
--- the pair of this number can't be held beside those before it
-pub record IsBreach (w : Written) (pairs : List (ℕ × ℕ)) (k : ℕ) : Type 0 where
-  pub in_range : k < length pairs
-  pub cause : CantJoin w (take k pairs) (pair_at pairs k).0 (pair_at pairs k).1
+-- a pair may stand behind those before it: it is acceptable, its proposer isn't in one of them, and its reviewer isn't full
+pub record IsFree (w : Written) (before : List (ℕ × ℕ)) (pair : ℕ × ℕ) : Type 0 where
+  pub acceptable : IsAcceptable w pair.0 pair.1
+  pub proposer_free : partner_in before pair.0 ≡ None
+  pub place_free : times_second before pair.1 < capacity_of w.reviewers pair.1
 
--- and no earlier pair is one that can't be held
-pub record IsFirstBreach (w : Written) (pairs : List (ℕ × ℕ)) (k : ℕ) : Type 0 where
-  pub breach : IsBreach w pairs k
-  pub earlier : (j : ℕ) → j < k → ¬ IsBreach w pairs j
+-- each of the first n pairs may stand behind those before it
+abbrev pub AreFree : Written → List (ℕ × ℕ) → ℕ → Type 0
+AreFree w pairs n = (k : ℕ) → k < n → IsFree w (take k pairs) (pair_at pairs k)
 
 -- all can be held
 abbrev pub CanHold : Written → List (ℕ × ℕ) → Type 0
-CanHold w pairs = (k : ℕ) → ¬ IsBreach w pairs k
+CanHold w pairs = AreFree w pairs (length pairs)
+
+-- the pair of this number is the first that can't be held
+pub record IsFirstBreach (w : Written) (pairs : List (ℕ × ℕ)) (k : ℕ) : Type 0 where
+  pub in_range : k < length pairs
+  pub breach : ¬ IsFree w (take k pairs) (pair_at pairs k)
+  pub earlier : AreFree w pairs k
 
 -- and no pair blocks their matching
 pub record GiveStable (w : Written) (pairs : List (ℕ × ℕ)) : Type 0 where

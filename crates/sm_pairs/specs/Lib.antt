@@ -1,4 +1,5 @@
 pub mod Held
 pub mod Holding
+pub mod PairsKept
 pub mod Chosen
 pub mod Gains

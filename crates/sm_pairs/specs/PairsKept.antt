@@ -1,17 +1,16 @@
--- What is kept of the pairs that an answer has written so far.
-use Rattle.std.specs.Prelude.{◌≡◌, ℕ, ◌<◌, ◌++◌, ◌∷◌, [], Bool, true, false, List, length}
+-- What is kept of the pairs so far.
+use Rattle.std.specs.Prelude.{◌≡◌, ℕ, ◌++◌, ◌∷◌, [], Bool, true, false, List}
 use Rattle.sm_instance.specs.Written.{Written}
 use Rattle.sm_instance.specs.Matching.{load}
 use Rattle.sm_pairs.specs.Holding.{IsHolding}
 use Rattle.sm_pairs.specs.declared.holding.Holding.{Holding}
-use Rattle.sm_pairs.specs.Held.{places_in}
-use Rattle.sm_check_clauses.specs.Pairs.{times_second, IsFree}
+use Rattle.sm_pairs.specs.Held.{places_in, times_second, IsFree}
 
 -- they make this matching
 pub record ArePairsHeld (w : Written) (pairs : List (ℕ × ℕ)) (holding : Holding) : Type 0 where
   pub held : IsHolding w holding
   pub places : holding.matching.places.items ≡ places_in w pairs
-  pub seconds : (r : ℕ) → r < length w.reviewers → times_second pairs r ≡ load w holding.matching.places.items r
+  pub seconds : (r : ℕ) → times_second pairs r ≡ load w holding.matching.places.items r
 
 -- one more pair may stand behind them, and is kept too; or it may not
 pub record HasJoined (w : Written) (pairs : List (ℕ × ℕ)) (pair : ℕ × ℕ) (after : Holding) : Type 0 where
