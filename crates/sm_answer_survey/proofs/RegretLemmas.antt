@@ -1,10 +1,9 @@
 -- What is kept of the rank vector of a matching.
 use Rattle.std.proofs.Common.{◌≡◌, ◌⊎◌, inl, inr, ℕ, zero, suc, ◌+◌, ◌/◌, ◌<◌, ◌≤◌, slice_index, min, max, List, [], ◌∷◌, refl, length, map, fold, set, Option, get_or, ⊎_elim, sym, ap, ◌∙◌, subst, arith}
 use Rattle.std.specs.List.{range_with_len}
-use Rattle.std.proofs.lemmas.Bool.{cases_eq}
+use Rattle.std.proofs.lemmas.Bool.{cases_eq, cases_lt}
 use Rattle.std.proofs.lemmas.List.{length-set, get_or-set_same, get_or-set_other, get_or_past, ext_get_or}
 use Rattle.std.proofs.lemmas.List.FromFn.{length-map-range_with_len, get_or-map-range_with_len}
-use Rattle.sm_lists.proofs.Counting.{lt_or_le}
 use Rattle.sm_instance.specs.Written.{Written}
 use Rattle.sm_instance.specs.Matching.{held, IsMatching}
 use Rattle.sm_instance.specs.Ranks.{rank_vector_of, worse_rank, regret_of}
@@ -60,7 +59,7 @@ later n m ns r = record { at = suc r.at; there = let t = r.there in omega (arith
 greatest_reached : (a : ℕ) (ns : List ℕ) → (fold max a ns ≡ a) ⊎ IsReached ns (fold max a ns)
 greatest_reached a [] = inl refl
 greatest_reached a (n ∷ ns) = elim (greatest_reached (max a n) ns) [
-  | inl e ↦ elim (lt_or_le a n) [
+  | inl e ↦ elim (cases_lt a n) [
     | inl l ↦ inr (record { at = 0; there = omega arith; is = omega (arith, e, l) })
     | inr l ↦ inl (omega (arith, e, l))
   ]
@@ -127,7 +126,7 @@ others_left numbers before from p others q out = others q (elim out [ inl l ↦ 
 
 -- lists of one length that are the same up to a piece's end are the same in all of it
 pub same_whole : (kept ranks : List ℕ) (from p to : ℕ) → length kept ≡ length ranks → to ≡ min (from + piece) (length kept) → to ≤ p → ((q : ℕ) → from ≤ q → q < p → slice_index kept q ≡ slice_index ranks q) → AreSameIn from kept ranks
-same_whole kept ranks from p to long ends past same q l m = elim (lt_or_le q p) [
+same_whole kept ranks from p to long ends past same q l m = elim (cases_lt q p) [
   | inl below ↦ same q l below
   | inr above ↦ get_or_past kept q 0 (omega (arith, above, past, ends, m)) ∙ sym (get_or_past ranks q 0 (omega (arith, above, past, ends, m, long)))
 ]
