@@ -1,7 +1,9 @@
 -- Numbers of names, and the first line that names nobody.
-use Rattle.std.proofs.Common.{◌≡◌, ◌≢◌, ℕ, zero, suc, ◌+◌, ◌<◌, ◌≤◌, ◌||◌, Bool, true, false, cond, List, [], ◌∷◌, ◌++◌, length, get_or, set, take, drop, map, min, filter, Option, Some, None, refl, sym, ap, ◌∙◌, subst, append_assoc, arith, ℤ}
+use Rattle.std.proofs.Common.{◌≡◌, ◌≢◌, ℕ, zero, suc, ◌+◌, ◌<◌, ◌≤◌, ◌||◌, Bool, true, false, cond, List, [], ◌∷◌, ◌++◌, length, get_or, set, take, drop, map, min, filter, Option, Some, None, Result, refl, sym, ap, ◌∙◌, subst, append_assoc, arith, ℤ}
 use Rattle.std.specs.List.{list_any}
 use Rattle.std.specs.Option.{option_map, option_map_or}
+use Rattle.std.specs.Result.{IfOk}
+use Rattle.std.specs.declared.alloc.AllocError.{AllocError}
 use Rattle.std.proofs.Math.Seq.{drop-cons, get_or-append_seam, set-append_seam}
 use Rattle.std.proofs.lemmas.List.{length-map, length-take-le, get_or-map, map_push, map-append, take_more, take_all}
 use Rattle.std.proofs.lemmas.List.Elements.{filter-append}
@@ -17,11 +19,13 @@ use Rattle.sm_lists.specs.Earlier.{earlier_of}
 use Rattle.sm_reader.specs.InstanceText.{lines_with_unknown, pairs_with_unknown, order_with_unknown, least, unknown_lines, listed_by_proposers, numbered, full_order, two_sides}
 use Rattle.sm_keys.specs.Tables.{number_in, AreBelow, Table}
 use Rattle.sm_reader.specs.Draft.{AreAgentsBelow, IsPairBelow, ArePairsBelow, pairs_of, listed_table, agent_in, pair_in, given_in, order_of, said_of, IsDraft}
-use Rattle.sm_reader.specs.Numbering.{line_if, pair_among, weight_among, NumbersPersons, NumbersSides}
+use Rattle.sm_reader.specs.Numbering.{line_if, pair_among, weight_among, NumbersPersons, NumbersSides, NumbersSaid, NumbersBoth, ArePartsOf}
 use Rattle.sm_reader.specs.declared.draft.Declared.{Declared}
 use Rattle.sm_reader.specs.declared.draft.Pair.{Pair}
 use Rattle.sm_reader.specs.declared.draft.Weight.{Weight}
 use Rattle.sm_reader.specs.declared.draft.Draft.{Draft}
+use Rattle.sm_reader.specs.declared.numbering.BothNumbered.{BothNumbered}
+use Rattle.sm_reader.specs.declared.numbering.SaidNumbered.{SaidNumbered}
 use Rattle.sm_instance.specs.declared.parts.Parts.{Parts}
 
 -- the parts of a front of a list, and one more
@@ -246,3 +250,23 @@ few_names kind line d draft =
       omega (arith, ap length draft.proposers_declared, length-map d.proposers.items name, draft.proposers_fit),
       omega (arith, ap length draft.reviewers_declared, length-map d.reviewers.items name, draft.reviewers_fit),
     )
+
+-- the two sides are numbered where both halves of them are
+pub sides_of : (kind : Kind) (d : Draft) (halves : Result BothNumbered AllocError) (rest : Result SaidNumbered AllocError) (parts : Parts)
+    → IfOk halves (NumbersBoth d.proposer_names d.reviewer_names d.proposers.items d.reviewers.items d.order)
+    → IfOk rest (NumbersSaid d.proposer_names d.reviewer_names d.weights.items d.forced.items d.forbidden.items)
+    → ArePartsOf kind halves rest parts → NumbersSides d parts
+sides_of kind d halves rest parts h k are =
+    let both : NumbersBoth d.proposer_names d.reviewer_names d.proposers.items d.reviewers.items d.order are.both =
+    subst (λ (x : Result BothNumbered AllocError). IfOk x (NumbersBoth d.proposer_names d.reviewer_names d.proposers.items d.reviewers.items d.order)) are.both_is h in
+    let said : NumbersSaid d.proposer_names d.reviewer_names d.weights.items d.forced.items d.forbidden.items are.said =
+    subst (λ (x : Result SaidNumbered AllocError). IfOk x (NumbersSaid d.proposer_names d.reviewer_names d.weights.items d.forced.items d.forbidden.items)) are.said_is k in
+    subst (NumbersSides d) (sym are.is) (record {
+      proposers = both.proposers;
+      reviewers = both.reviewers;
+      weights = said.weights;
+      forced = said.forced;
+      forbidden = said.forbidden;
+      seconds = said.seconds;
+      order = both.order;
+    })

@@ -1,20 +1,26 @@
 -- What the numbering of names takes and gives.
-use Rattle.std.specs.Prelude.{if◌then◌else◌, ◌≡◌, ◌≢◌, ℕ, ◌+◌, ◌≤◌, length, map, Bool, List, Option, Some, None, ℤ}
+use Rattle.std.specs.Prelude.{if◌then◌else◌, ◌≡◌, ◌≢◌, ℕ, ◌+◌, ◌≤◌, length, map, Bool, List, Option, Some, None, Result, Ok, ℤ}
 use Rattle.sm_instance.specs.declared.kinds.Kind.{Kind}
 use Rattle.sm_instance.specs.declared.kinds.Kind.TheVariants.{Roommates}
 use Rattle.sm_instance.specs.declared.agents.Agent.{Agent}
 use Rattle.sm_instance.specs.declared.parts.Parts.{Parts}
 use Rattle.sm_instance.specs.Vectors.{agents_of}
 use Rattle.sm_instance.specs.Named.{SaidPair, SaidWeight, names_first}
-use Rattle.sm_keys.specs.Tables.{number_in}
+use Rattle.sm_keys.specs.Tables.{number_in, Table}
 use Rattle.sm_reader.specs.InstanceText.{numbered, full_order, unknown_lines, least}
 use Rattle.sm_reader.specs.Draft.{IsDraft, said_of, agent_in, pair_in, given_in, order_of}
 use Rattle.sm_reader.specs.Right.{IsRight}
 use Rattle.sm_text.specs.Limits.{most_bytes, most_agents}
 use Rattle.sm_text.specs.declared.refusal.RefusalKind.TheVariants.{UnknownName}
 use Rattle.sm_reader.specs.declared.draft.Draft.{Draft}
+use Rattle.sm_reader.specs.declared.draft.Declared.{Declared}
+use Rattle.sm_reader.specs.declared.draft.Order.{Order}
+use Rattle.sm_reader.specs.declared.draft.Pair.{Pair}
 use Rattle.sm_reader.specs.declared.draft.Weight.{Weight}
+use Rattle.sm_reader.specs.declared.numbering.BothNumbered.{BothNumbered}
+use Rattle.sm_reader.specs.declared.numbering.SaidNumbered.{SaidNumbered}
 use Rattle.std.specs.Option.{option_map}
+use Rattle.std.specs.declared.alloc.AllocError.{AllocError}
 use Rattle.sm_reader.specs.declared.faults.TextFault.{TextFault}
 use Rattle.sm_reader.specs.declared.faults.TextFault.TheVariants.{Refused, OutOfMemory}
 
@@ -65,6 +71,36 @@ pub record NumbersSides (d : Draft) (sides : Parts) : Type 0 where
   pub seconds : sides.seconds.items ≡ map (λ (w : Weight). w.second) d.weights.items
   pub order : let p = d.proposer_names in
       sides.order.items ≡ full_order (length d.proposers.items) (map (number_in p.declared) (names_first (option_map (order_of p.texts) d.order)))
+
+-- weights and conditions by number
+pub record NumbersSaid (p r : Table) (given : List Weight) (to_hold not_to : List Pair) (said : SaidNumbered) : Type 0 where
+  pub weights : said.weights.items ≡ map (weight_among p.declared r.declared) (map (given_in p.texts r.texts) given)
+  pub seconds : said.seconds.items ≡ map (λ (w : Weight). w.second) given
+  pub forced : said.forced.items ≡ map (pair_among p.declared r.declared) (map (pair_in p.texts r.texts) to_hold)
+  pub forbidden : said.forbidden.items ≡ map (pair_among p.declared r.declared) (map (pair_in p.texts r.texts) not_to)
+
+-- the agents of both sides by number, and the order of the proposers
+pub record NumbersBoth (p r : Table) (ps rs : List Declared) (first : Option Order) (both : BothNumbered) : Type 0 where
+  pub proposers : agents_of both.proposers.items ≡ map (numbered r.declared) (map (agent_in r.texts) ps)
+  pub reviewers : agents_of both.reviewers.items ≡ map (numbered p.declared) (map (agent_in p.texts) rs)
+  pub order : both.order.items ≡ full_order (length ps) (map (number_in p.declared) (names_first (option_map (order_of p.texts) first)))
+
+-- the parts of an instance, of which both halves are there
+pub record ArePartsOf (kind : Kind) (halves : Result BothNumbered AllocError) (rest : Result SaidNumbered AllocError) (parts : Parts) : Type 0 where
+  pub both : BothNumbered
+  pub said : SaidNumbered
+  pub both_is : halves ≡ Ok both
+  pub said_is : rest ≡ Ok said
+  pub is : parts ≡ record {
+    kind = kind;
+    proposers = both.proposers;
+    reviewers = both.reviewers;
+    weights = said.weights;
+    forced = said.forced;
+    forbidden = said.forbidden;
+    seconds = said.seconds;
+    order = both.order;
+  }
 
 -- the first line that names an undeclared agent is refused
 abbrev pub IsUnknownFault : Kind → Draft → TextFault → Type 0

@@ -6,9 +6,11 @@ use Rattle.sm_instance.specs.Inputs.{IsInput}
 use Rattle.sm_instance.specs.declared.inputs.Input.{Input}
 use Rattle.sm_instance.specs.Named.{nothing}
 use Rattle.sm_reader.specs.Judging.{Heading, passes, heads, faces}
-use Rattle.sm_reader.specs.InstanceText.{ReadText, Refusal, before_header, behind_header, unknown_lines, least, input_of}
+use Rattle.sm_reader.specs.InstanceText.{ReadText, Refusal, before_header, behind_header, ended, unknown_lines, least, input_of}
 use Rattle.sm_reader.specs.Draft.{said_of}
+use Rattle.sm_reader.specs.Numbering.{IsReady}
 use Rattle.sm_reader.specs.declared.draft.Draft.{Draft}
+use Rattle.sm_reader.specs.declared.reading.End.{End}
 use Rattle.sm_reader.specs.declared.header.Header.{Header}
 use Rattle.sm_reader.specs.declared.faults.TextFault.{TextFault}
 use Rattle.sm_reader.specs.declared.faults.TextFault.TheVariants.{Refused, OutOfMemory}
@@ -34,6 +36,12 @@ heading_is (Some header) = heads header.0 header.1
 abbrev pub IsHeadingFault : Heading → ℕ → TextFault → Type 0
 IsHeadingFault heading line (Refused kind at) = (heading ≡ faces kind) × (at ≡ line)
 IsHeadingFault heading line OutOfMemory = Unit {0}
+
+-- an instance ends there, after lines without a fault
+pub record EndsAt (bytes : List ℕ) (header : Header) (d : Draft) (end : End) : Type 0 where
+  pub means : behind_header header.kind header.format header.line nothing (header.line + 1) header.next (lines (drop header.next bytes)) ≡ ended header.kind header.line (said_of header.kind d) end.rest end.rest_line
+  pub ready : IsReady header.kind d
+  pub within : end.rest ≤ length bytes
 
 -- all names are declared, and the input is the instance that the lines say, which is sound
 pub record Finishes (kind : Kind) (d : Draft) (input : Input) : Type 0 where

@@ -3,6 +3,7 @@
 ghost use Rattle.std.specs.Prelude.{◌≡◌, ℕ, ◌<◌, IfOk};
 ghost use Rattle.indexmap.specs.IndexSet.{keys};
 ghost use Rattle.sm_reader.specs.Draft.{said_of, IsDraft};
+ghost use Rattle.sm_keys.specs.Tables.{no_names};
 ghost use Rattle.sm_instance.specs.Named.{nothing};
 ghost use Rattle.sm_instance.specs.declared.kinds.Kind.{Kind};
 
@@ -112,23 +113,49 @@ pub(crate) fn empty<'a>(alloc: Global, text: &'a [u8]) -> Result<Draft<'a>, Allo
     // Room for the names of all agents spares the sets from growing, in which each name would be put anew.
     let room = (text.len() / BYTES_EACH).min(MOST_AGENTS);
     let proposer_names = Names::new(alloc, text, room)?;
-    let reviewer_names = Names::new(alloc, text, room)?;
-    let master_names = Names::new(alloc, text, 0)?;
-    Ok(Draft {
-        text,
-        proposer_names,
-        reviewer_names,
-        proposers: Vec::new(alloc),
-        reviewers: Vec::new(alloc),
-        entries: 0,
-        weights: Vec::new(alloc),
-        weighed: IndexSet::with_hasher(alloc, TextHash::of(&[])),
-        forced: Vec::new(alloc),
-        forbidden: Vec::new(alloc),
-        master_names,
-        masters: Vec::new(alloc),
-        order: None,
-    })
+    match Names::new(alloc, text, room) {
+        Ok(reviewer_names) => empty_with(alloc, text, proposer_names, reviewer_names),
+        Err(error) => {
+            drop(proposer_names);
+            Err(error)
+        }
+    }
+}
+
+/// Nothing is said yet by a text; the tables of names are given.
+fn empty_with<'a>(
+    alloc: Global,
+    text: &'a [u8],
+    proposer_names: Names<'a>,
+    reviewer_names: Names<'a>,
+) -> Result<Draft<'a>, AllocError>
+    requires proposers { proposer_names ≡ no_names }
+    requires reviewers { reviewer_names ≡ no_names }
+    ensures said { IfOk result (λ d. (kind : Kind) → said_of kind d ≡ nothing) }
+    ensures draft { IfOk result (λ d. (kind : Kind) (line : ℕ) → 1 < line → IsDraft kind line d) }
+{
+    match Names::new(alloc, text, 0) {
+        Ok(master_names) => Ok(Draft {
+            text,
+            proposer_names,
+            reviewer_names,
+            proposers: Vec::new(alloc),
+            reviewers: Vec::new(alloc),
+            entries: 0,
+            weights: Vec::new(alloc),
+            weighed: IndexSet::with_hasher(alloc, TextHash::of(&[])),
+            forced: Vec::new(alloc),
+            forbidden: Vec::new(alloc),
+            master_names,
+            masters: Vec::new(alloc),
+            order: None,
+        }),
+        Err(error) => {
+            drop(proposer_names);
+            drop(reviewer_names);
+            Err(error)
+        }
+    }
 }
 
 /// Makes the set of the pairs that have a weight ready for one more: the first is put by hashes that the text can't choose,

@@ -8,13 +8,30 @@ ghost use Rattle.sm_instance.specs.Vectors.{agent_of, agents_of};
 ghost use Rattle.sm_reader.specs.InstanceText.{least, unknown_lines, lines_with_unknown, pairs_with_unknown, order_with_unknown, numbered, full_order};
 ghost use Rattle.sm_keys.specs.Tables.{is_unknown, number_in, text_at, AreBelow, AreInOrder};
 ghost use Rattle.sm_reader.specs.Draft.{said_of, listed_table, agent_in, pair_in, given_in, order_of, IsOrderBelow, AreAgentsBelow, IsPairBelow, ArePairsBelow, pairs_of};
-ghost use Rattle.sm_reader.specs.Numbering.{line_if, pair_among, weight_among, IsReady, IsTwoSided, NumbersPersons, NumbersSides};
+ghost use Rattle.sm_reader.specs.Numbering.{line_if, pair_among, weight_among, IsReady, IsTwoSided, NumbersPersons, NumbersSides, NumbersSaid, NumbersBoth, ArePartsOf};
 
 use crate::draft::{Declared, Draft, OfPair, Order, Pair, Weight};
 use sm_instance::{Agent, Kind, Parts};
 use sm_keys::Names;
 use sm_lists::earlier;
 use std::alloc::{AllocError, Global};
+
+/// The agents of both sides by number, and the order of the proposers.
+#[derive(Drop)]
+struct BothNumbered {
+    proposers: Vec<Agent>,
+    reviewers: Vec<Agent>,
+    order: Vec<u32>,
+}
+
+/// The weights of pairs and the pairs of which something is asked, by number.
+#[derive(Drop)]
+struct SaidNumbered {
+    weights: Vec<(u32, u32, i64)>,
+    seconds: Vec<i64>,
+    forced: Vec<(u32, u32)>,
+    forbidden: Vec<(u32, u32)>,
+}
 
 /// The first line that names an agent which isn't declared. No line does where each name that stands in the text is
 /// declared, and nothing is looked for then.
@@ -148,10 +165,22 @@ pub(crate) fn numbered_persons(alloc: Global, draft: Draft<'_>) -> Result<Vec<Ag
 {
     let Draft {
         proposer_names,
+        reviewer_names,
         proposers,
+        reviewers,
+        weighed,
+        master_names,
+        masters,
         ..
     } = draft;
-    number_agents(alloc, &proposer_names, proposers)
+    drop(reviewer_names);
+    drop(reviewers);
+    drop(weighed);
+    drop(master_names);
+    drop(masters);
+    let persons = number_agents(alloc, &proposer_names, proposers);
+    drop(proposer_names);
+    persons
 }
 
 /// The two sides of a draft by number. Nothing else of the draft is kept.
@@ -173,21 +202,54 @@ pub(crate) fn numbered_sides(
         weighed,
         forced,
         forbidden,
+        master_names,
         masters,
         order,
         ..
     } = draft;
     drop(weighed);
     drop(masters);
-    let count = proposers.len();
-    let proposers = number_agents(alloc, &reviewer_names, proposers)?;
-    let reviewers = number_agents(alloc, &proposer_names, reviewers)?;
-    let seconds = second_weights(alloc, &weights)?;
-    let weights = number_weights(alloc, &proposer_names, &reviewer_names, &weights)?;
-    let forced = number_pairs(alloc, &proposer_names, &reviewer_names, &forced)?;
-    let forbidden = number_pairs(alloc, &proposer_names, &reviewer_names, &forbidden)?;
-    let first = number_order(alloc, &proposer_names, order);
-    let order = full_order(alloc, count, first)?;
+    drop(master_names);
+    let said = number_said(
+        alloc,
+        &proposer_names,
+        &reviewer_names,
+        weights,
+        forced,
+        forbidden,
+    );
+    let both = number_both(
+        alloc,
+        &proposer_names,
+        &reviewer_names,
+        proposers,
+        reviewers,
+        order,
+    );
+    drop(proposer_names);
+    drop(reviewer_names);
+    parts_of(kind, both, said)
+}
+
+/// The parts of an instance, if there was memory for all of them.
+fn parts_of(
+    kind: Kind,
+    both: Result<BothNumbered, AllocError>,
+    said: Result<SaidNumbered, AllocError>,
+) -> Result<Parts, AllocError>
+    ensures { IfOk result (λ parts. ArePartsOf kind both said parts) }
+{
+    let BothNumbered {
+        proposers,
+        reviewers,
+        order,
+    } = both?;
+    let SaidNumbered {
+        weights,
+        seconds,
+        forced,
+        forbidden,
+    } = said?;
     Ok(Parts {
         kind,
         proposers,
@@ -196,6 +258,68 @@ pub(crate) fn numbered_sides(
         forced,
         forbidden,
         seconds,
+        order,
+    })
+}
+
+/// Weights and conditions by number.
+fn number_said(
+    alloc: Global,
+    proposers: &Names<'_>,
+    reviewers: &Names<'_>,
+    weights: Vec<Weight>,
+    forced: Vec<Pair>,
+    forbidden: Vec<Pair>,
+) -> Result<SaidNumbered, AllocError>
+    requires few_proposers { length proposers.now.declared < 2 ^ 32 }
+    requires few_reviewers { length reviewers.now.declared < 2 ^ 32 }
+    requires weights_in { ArePairsBelow (length proposers.now.texts) (length reviewers.now.texts)
+        (pairs_of weights.items) }
+    requires forced_in { ArePairsBelow (length proposers.now.texts) (length reviewers.now.texts)
+        forced.items }
+    requires forbidden_in { ArePairsBelow (length proposers.now.texts)
+        (length reviewers.now.texts) forbidden.items }
+    ensures { IfOk result (λ said. NumbersSaid proposers.now reviewers.now weights.items
+        forced.items forbidden.items said) }
+{
+    let seconds = second_weights(alloc, &weights)?;
+    let weights = number_weights(alloc, proposers, reviewers, &weights)?;
+    let forced = number_pairs(alloc, proposers, reviewers, &forced)?;
+    let forbidden = number_pairs(alloc, proposers, reviewers, &forbidden)?;
+    Ok(SaidNumbered {
+        weights,
+        seconds,
+        forced,
+        forbidden,
+    })
+}
+
+/// The agents of both sides by number, and the order of the proposers.
+fn number_both(
+    alloc: Global,
+    proposer_names: &Names<'_>,
+    reviewer_names: &Names<'_>,
+    proposers: Vec<Declared<'_>>,
+    reviewers: Vec<Declared<'_>>,
+    order: Option<Order>,
+) -> Result<BothNumbered, AllocError>
+    requires few_proposers { length proposer_names.now.declared < 2 ^ 32 }
+    requires few_reviewers { length reviewer_names.now.declared < 2 ^ 32 }
+    requires few { length proposers.items < 2 ^ 32 }
+    requires proposers_in { AreAgentsBelow (length reviewer_names.now.texts) proposers.items }
+    requires reviewers_in { AreAgentsBelow (length proposer_names.now.texts) reviewers.items }
+    requires order_in { IsOrderBelow (length proposer_names.now.texts) order }
+    ensures { IfOk result (λ agents. NumbersBoth proposer_names.now reviewer_names.now
+        proposers.entry.items reviewers.entry.items order agents) }
+{
+    let count = proposers.len();
+    let first = number_order(alloc, proposer_names, order);
+    let order = full_order(alloc, count, first)?;
+    let proposers = number_agents(alloc, reviewer_names, proposers)?;
+    let reviewers = number_agents(alloc, proposer_names, reviewers)?;
+    Ok(BothNumbered {
+        proposers,
+        reviewers,
         order,
     })
 }

@@ -11,9 +11,9 @@ ghost use Rattle.sm_instance.specs.Named.{nothing};
 ghost use Rattle.sm_reader.specs.Judging.{heading_of};
 ghost use Rattle.sm_reader.specs.InstanceText.{instance_text, read_of, IsTextFault, before_header, behind_header, unknown_lines, least, input_of, two_sides};
 ghost use Rattle.sm_text.specs.Slices.{texts_of};
-ghost use Rattle.sm_reader.specs.Draft.{said_of};
+ghost use Rattle.sm_reader.specs.Draft.{said_of, IsDraft};
 ghost use Rattle.sm_reader.specs.Numbering.{IsReady, IsUnknownFault};
-ghost use Rattle.sm_reader.specs.Reading.{IsHeaded, IsFaultOf, heading_is, IsHeadingFault, Finishes};
+ghost use Rattle.sm_reader.specs.Reading.{IsHeaded, IsFaultOf, heading_is, IsHeadingFault, EndsAt, Finishes};
 
 use crate::draft::{Draft, empty};
 use crate::faults::TextFault;
@@ -110,6 +110,13 @@ fn heading(tokens: &[&[u8]], bad: bool, line: u32) -> Result<Option<(Kind, u32)>
     }
 }
 
+/// Where an instance ends: the place behind its line `end`, and the number of the line that begins there.
+#[derive(Clone, Copy)]
+struct End {
+    rest: usize,
+    rest_line: u32,
+}
+
 /// Reads the lines behind the header.
 fn read_lines(alloc: Global, bytes: &[u8], header: Header) -> Result<Read, TextFault>
     requires short { length bytes.now ≤ most_bytes }
@@ -121,22 +128,51 @@ fn read_lines(alloc: Global, bytes: &[u8], header: Header) -> Result<Read, TextF
         (header.line + 1) header.next (lines (drop header.next bytes.now))) f) }
 {
     let mut draft = empty(alloc, bytes)?;
+    match judge_lines(alloc, bytes, header, &mut draft) {
+        Ok(end) => {
+            let hash = hash_for(&draft, bytes.len() - end.rest);
+            let input = finished(alloc, hash, header.kind, draft)?;
+            Ok(Read {
+                input,
+                header_line: header.line,
+                rest: end.rest,
+                rest_line: end.rest_line,
+            })
+        }
+        Err(fault) => {
+            drop(draft);
+            Err(fault)
+        }
+    }
+}
+
+/// Judges the lines behind the header, up to the line `end`.
+fn judge_lines<'a>(
+    alloc: Global,
+    bytes: &'a [u8],
+    header: Header,
+    draft: &mut Draft<'a>,
+) -> Result<End, TextFault>
+    requires short { length bytes.now ≤ most_bytes }
+    requires headed { IsHeaded bytes.now header }
+    requires said { said_of header.kind draft.old ≡ nothing }
+    requires draft { IsDraft header.kind (header.line + 1) draft.old }
+    ensures ends { IfOk result (λ end. EndsAt bytes.now header draft.new end) }
+    ensures fault { IfErr result (λ f. IsFaultOf (behind_header header.kind header.format header.line nothing
+        (header.line + 1) header.next (lines (drop header.next bytes.now))) f) }
+{
     let mut tokens = Vec::new(alloc);
     let mut at = header.next;
     let mut line = header.line + 1;
     'lines: while let Some((text, next)) = line_from(bytes, at) {
         let found = cut_enough(text, &mut tokens)?;
-        match judge(alloc, header, &mut draft, line, &tokens, found)? {
+        match judge(alloc, header, draft, line, &tokens, found)? {
             Step::Goes => {
                 at = next;
                 line += 1;
             }
             Step::Stops => {
-                let hash = hash_for(&draft, bytes.len() - next);
-                let input = finished(alloc, hash, header.kind, draft)?;
-                return Ok(Read {
-                    input,
-                    header_line: header.line,
+                return Ok(End {
                     rest: next,
                     rest_line: line + 1,
                 });
@@ -163,6 +199,7 @@ fn finished(alloc: Global, hash: TextHash, kind: Kind, draft: Draft<'_>) -> Resu
     ensures fault { IfErr result (λ f. IsUnknownFault kind draft.entry f) }
 {
     if let Some(line) = first_unknown(kind, &draft) {
+        drop(draft);
         return Err(TextFault::Refused(RefusalKind::UnknownName, line));
     }
     match kind {

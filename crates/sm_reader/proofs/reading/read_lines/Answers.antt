@@ -1,112 +1,37 @@
-use Rattle.std.proofs.Common.{◌≡◌, ◌+◌, drop, ap, ◌∙◌, sym, subst, arith}
+use Rattle.std.proofs.Common.{◌+◌, ◌∙◌, drop, arith}
 use Rattle.sm_text.specs.Lines.{lines}
-use Rattle.sm_text.specs.Tokens.{tokens}
 use Rattle.sm_instance.specs.Named.{nothing}
-use Rattle.sm_reader.specs.Judging.{verdict_on}
 use Rattle.sm_reader.specs.InstanceText.{behind_header, ended}
-use Rattle.sm_text.specs.Slices.{texts_of}
-use Rattle.sm_reader.specs.Draft.{said_of, IsDraft, IsRefusedBy}
+use Rattle.sm_reader.specs.Draft.{said_of}
 use Rattle.sm_reader.specs.Reading.{IsFaultOf}
-use Rattle.sm_reader.specs.declared.draft.Draft.{Draft}
-use Rattle.sm_reader.specs.declared.faults.TextFault.TheVariants.{OutOfMemory}
-use Rattle.sm_reader.specs.Right.{IsRight}
-use Rattle.sm_reader.proofs.ReadingLemmas.{goes_step, stops_step, refuses_step, ended_ok, ended_err, same_fault}
-use Rattle.sm_reader.proofs.RightLemmas.{nothing_right, goes_right}
-use Rattle.sm_reader.proofs.EnoughLemmas.{verdict_enough}
+use Rattle.sm_reader.proofs.ReadingLemmas.{ended_ok, ended_err, same_fault}
 use Rattle.sm_reader.proofs.ResultLemmas.{on_err}
 use Rattle.sm_reader.proofs.reading.read_lines.Goals as goal
 
-pub lines-init : goal.lines-init
-lines-init c =
-    let h = c.args.header in
-    record {
-      means = ap (λ s. behind_header h.kind h.format h.line s (h.line + 1) h.next (lines (drop h.next c.args.bytes.now))) (c.in_ok-draft.ensures.said h.kind);
-      right = subst (IsRight h.kind) (sym (c.in_ok-draft.ensures.said h.kind)) (nothing_right h.kind);
-      draft = c.in_ok-draft.ensures.draft h.kind (h.line + 1) (omega (arith, c.requires.headed.first));
-      fits = omega (arith, c.requires.headed.fits);
-      within = c.requires.headed.within;
-    }
+pub judge_lines-requires-clause-said : goal.judge_lines-requires-clause-said
+judge_lines-requires-clause-said c = c.in_ok-draft.ensures.said c.args.header.kind
 
-pub lines-preserved : goal.lines-preserved
-lines-preserved c =
-    let h = c.args.header in
-    let bytes = c.args.bytes.now in
-    let old = c.lines.draft in
-    let said = said_of h.kind old in
-    let same : verdict_on h.kind h.format said c.lines.line (texts_of c.deref.result.now) ≡ verdict_on h.kind h.format said c.lines.line (tokens c.in-Some.text.now) =
-    ap (λ xs. verdict_on h.kind h.format said c.lines.line (texts_of xs)) c.deref.ensures.value ∙ verdict_enough _ _ c.in_ok-found.ensures.enough h.kind h.format said c.lines.line in
-    let judged = rw c.in-Goes.is at c.in_ok-judge.ensures.judged in
-    record {
-      means = sym (goes_step bytes c.in-Some.text.now c.lines.at c.in-Some.next c.in-Some.ensures.line h.kind h.format h.line said c.lines.line (said_of h.kind c.judge.new.draft)
-          (sym same ∙ judged.0)) ∙ c.lines.invariant.means;
-      draft = judged.1;
-      right = goes_right h.kind h.format said c.lines.line (tokens c.in-Some.text.now) (said_of h.kind c.judge.new.draft) c.lines.invariant.right (sym same ∙ judged.0);
-      fits = omega (arith, c.lines.invariant.fits, c.in-Some.ensures.later);
-      within = c.in-Some.ensures.within;
-    }
-
-pub returns-in_err-found-clause-fault : goal.returns-in_err-found-clause-fault
-returns-in_err-found-clause-fault c =
-    let h = c.args.header in
-    let meaning = behind_header h.kind h.format h.line nothing (h.line + 1) h.next (lines (drop h.next c.args.bytes.now)) in
-    on_err (IsFaultOf meaning) c.from_residual-in_err-found.result OutOfMemory c.from_residual-in_err-found.ensures.1 tt
-
-pub returns-in_err-judge-clause-fault : goal.returns-in_err-judge-clause-fault
-returns-in_err-judge-clause-fault c =
-    let h = c.args.header in
-    let bytes = c.args.bytes.now in
-    let said = said_of h.kind c.lines.draft in
-    let same : verdict_on h.kind h.format said c.lines.line (texts_of c.deref.result.now) ≡ verdict_on h.kind h.format said c.lines.line (tokens c.in-Some.text.now) =
-    ap (λ xs. verdict_on h.kind h.format said c.lines.line (texts_of xs)) c.deref.ensures.value ∙ verdict_enough _ _ c.in_ok-found.ensures.enough h.kind h.format said c.lines.line in
-    let meaning = behind_header h.kind h.format h.line nothing (h.line + 1) h.next (lines (drop h.next bytes)) in
-    let f = c.in_err-judge.field-0.0 in
-    let refused = subst (λ v. IsRefusedBy v c.lines.line f) same c.in_err-judge.ensures.refused in
-    on_err (IsFaultOf meaning) c.from_residual-in_err-judge.result f c.from_residual-in_err-judge.ensures.1
-    (same_fault meaning (behind_header h.kind h.format h.line said c.lines.line c.lines.at (lines (drop c.lines.at bytes))) f (sym c.lines.invariant.means)
-    (refuses_step bytes c.in-Some.text.now c.lines.at c.in-Some.next c.in-Some.ensures.line h.kind h.format h.line said c.lines.line f refused))
-
-pub returns-in_err-input-in-Stops-clause-fault : goal.returns-in_err-input-in-Stops-clause-fault
-returns-in_err-input-in-Stops-clause-fault c =
-    let h = c.args.header in
-    let bytes = c.args.bytes.now in
-    let old = c.lines.draft in
-    let new = c.judge.new.draft in
-    let said = said_of h.kind old in
-    let same : verdict_on h.kind h.format said c.lines.line (texts_of c.deref.result.now) ≡ verdict_on h.kind h.format said c.lines.line (tokens c.in-Some.text.now) =
-    ap (λ xs. verdict_on h.kind h.format said c.lines.line (texts_of xs)) c.deref.ensures.value ∙ verdict_enough _ _ c.in_ok-found.ensures.enough h.kind h.format said c.lines.line in
-    let judged = rw c.in-Stops.is at c.in_ok-judge.ensures.judged in
-    let meaning = behind_header h.kind h.format h.line nothing (h.line + 1) h.next (lines (drop h.next bytes)) in
-    let means : meaning ≡ ended h.kind h.line (said_of h.kind new) c.in-Some.next (c.lines.line + 1) =
-    sym c.lines.invariant.means
-    ∙ stops_step bytes c.in-Some.text.now c.lines.at c.in-Some.next c.in-Some.ensures.line h.kind h.format h.line said c.lines.line (sym same ∙ judged.0)
-    ∙ ap (λ d. ended h.kind h.line (said_of h.kind d) c.in-Some.next (c.lines.line + 1)) (sym judged.1) in
-    let f = c.in_err-input-in-Stops.field-0.0 in
-    on_err (IsFaultOf meaning) c.from_residual-in_err-input-in-Stops.result f c.from_residual-in_err-input-in-Stops.ensures.1
-    (same_fault meaning (ended h.kind h.line (said_of h.kind new) c.in-Some.next (c.lines.line + 1)) f means
-    (ended_err h.kind h.line new c.in-Some.next (c.lines.line + 1) f c.in_err-input-in-Stops.ensures.fault))
-
-pub returns-in-Stops-clause-read : goal.returns-in-Stops-clause-read
-returns-in-Stops-clause-read c =
-    let h = c.args.header in
-    let bytes = c.args.bytes.now in
-    let old = c.lines.draft in
-    let new = c.judge.new.draft in
-    let said = said_of h.kind old in
-    let same : verdict_on h.kind h.format said c.lines.line (texts_of c.deref.result.now) ≡ verdict_on h.kind h.format said c.lines.line (tokens c.in-Some.text.now) =
-    ap (λ xs. verdict_on h.kind h.format said c.lines.line (texts_of xs)) c.deref.ensures.value ∙ verdict_enough _ _ c.in_ok-found.ensures.enough h.kind h.format said c.lines.line in
-    let judged = rw c.in-Stops.is at c.in_ok-judge.ensures.judged in
-    sym c.lines.invariant.means
-    ∙ stops_step bytes c.in-Some.text.now c.lines.at c.in-Some.next c.in-Some.ensures.line h.kind h.format h.line said c.lines.line (sym same ∙ judged.0)
-    ∙ ap (λ d. ended h.kind h.line (said_of h.kind d) c.in-Some.next (c.lines.line + 1)) (sym judged.1)
-    ∙ ended_ok h.kind h.line new c.in-Some.next (c.lines.line + 1) c.in_ok-input-in-Stops.input c.in_ok-input-in-Stops.ensures.finished
+pub judge_lines-requires-clause-draft : goal.judge_lines-requires-clause-draft
+judge_lines-requires-clause-draft c = c.in_ok-draft.ensures.draft c.args.header.kind (c.args.header.line + 1) (omega (arith, c.requires.headed.first))
 
 pub finished-requires : goal.finished-requires
-finished-requires c =
-    let kind = c.args.header.kind in
-    let judged = rw c.in-Stops.is at c.in_ok-judge.ensures.judged in
-    record {
-      line = c.lines.line;
-      draft = subst (IsDraft kind c.lines.line) (sym judged.1) c.lines.invariant.draft;
-      right = subst (λ (x : Draft). IsRight kind (said_of kind x)) (sym judged.1) c.lines.invariant.right;
-      few = omega (arith, c.requires.short, c.lines.invariant.fits, c.lines.invariant.within);
-    }
+finished-requires c = c.in-Ok.ensures.ends.ready
+
+pub returns-in_err-input-in-Ok-clause-fault : goal.returns-in_err-input-in-Ok-clause-fault
+returns-in_err-input-in-Ok-clause-fault c =
+    let h = c.args.header in
+    let ends = c.in-Ok.ensures.ends in
+    let end = c.in-Ok.end in
+    let new = c.judge_lines.new.draft in
+    let meaning = behind_header h.kind h.format h.line nothing (h.line + 1) h.next (lines (drop h.next c.args.bytes.now)) in
+    let f = c.in_err-input-in-Ok.field-0.0 in
+    on_err (IsFaultOf meaning) c.from_residual-in_err-input-in-Ok.result f c.from_residual-in_err-input-in-Ok.ensures.1
+    (same_fault meaning (ended h.kind h.line (said_of h.kind new) end.rest end.rest_line) f ends.means
+    (ended_err h.kind h.line new end.rest end.rest_line f c.in_err-input-in-Ok.ensures.fault))
+
+pub returns-in_ok-input-in-Ok-clause-read : goal.returns-in_ok-input-in-Ok-clause-read
+returns-in_ok-input-in-Ok-clause-read c =
+    let h = c.args.header in
+    let ends = c.in-Ok.ensures.ends in
+    let end = c.in-Ok.end in
+    ends.means ∙ ended_ok h.kind h.line c.judge_lines.new.draft end.rest end.rest_line c.in_ok-input-in-Ok.input c.in_ok-input-in-Ok.ensures.finished

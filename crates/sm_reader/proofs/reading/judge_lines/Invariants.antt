@@ -4,7 +4,7 @@ use Rattle.sm_instance.specs.Named.{nothing}
 use Rattle.sm_reader.specs.InstanceText.{behind_header}
 use Rattle.sm_reader.specs.Draft.{said_of, IsDraft}
 use Rattle.sm_reader.specs.Right.{IsRight}
-use Rattle.sm_reader.proofs.reading.read_lines.Given as goal
+use Rattle.sm_reader.proofs.reading.judge_lines.Given as goal
 
 -- the text means what the lines from here on do after what is said, which is right, and there are no more lines than bytes
 abbrev pub invariant-lines : goal.invariant-lines
