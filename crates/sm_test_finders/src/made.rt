@@ -50,25 +50,51 @@ pub fn three(
     side
 }
 
-/// The residents a: k h, b: z h and c: h k, who doesn't stand on k's list; h has two places, k one and z none.
-pub fn small_hospitals(rt: &(impl Abort + AllocGlobal)) -> Instance {
-    let residents = three(
+/// A marriage of these sides, without weights and conditions.
+pub fn marriage(
+    rt: &(impl Abort + AllocGlobal),
+    proposers: Vec<Agent>,
+    reviewers: Vec<Agent>,
+) -> Instance {
+    Instance::build(
+        rt.alloc(),
+        Kind::Marriage,
+        proposers,
+        reviewers,
+        copy(rt, &[]),
+        copy(rt, &[]),
+        copy(rt, &[]),
+    )
+    .expect(rt, "an instance")
+}
+
+/// The residents a: k h, b: z h and c: h k.
+fn residents(rt: &(impl Abort + AllocGlobal)) -> Vec<Agent> {
+    three(
         rt,
         agent(rt, b'a', 1, &[1, 0]),
         agent(rt, b'b', 1, &[2, 0]),
         agent(rt, b'c', 1, &[0, 1]),
-    );
-    let hospitals = three(
+    )
+}
+
+/// The hospitals h with two places, k with one and z with none.
+fn hospitals(rt: &(impl Abort + AllocGlobal)) -> Vec<Agent> {
+    three(
         rt,
         agent(rt, b'h', 2, &[2, 0, 1]),
         agent(rt, b'k', 1, &[0]),
         agent(rt, b'z', 0, &[1]),
-    );
+    )
+}
+
+/// Three residents and three hospitals, with two weights, a forced pair and a forbidden one; c doesn't stand on k's list.
+pub fn small_hospitals(rt: &(impl Abort + AllocGlobal)) -> Instance {
     Instance::build(
         rt.alloc(),
         Kind::Hospitals,
-        residents,
-        hospitals,
+        residents(rt),
+        hospitals(rt),
         copy(rt, &[(0, 0, 4), (2, 0, -10)]),
         copy(rt, &[(0, 0)]),
         copy(rt, &[(1, 0)]),

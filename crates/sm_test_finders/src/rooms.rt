@@ -52,6 +52,25 @@ fn persons(rt: &(impl Abort + AllocGlobal), text: &str) -> Vec<Option<u32>> {
     persons
 }
 
+/// Makes sure of each person's successor and mate.
+fn are_linked(
+    rt: &impl Abort,
+    market: &RoomMarket,
+    partition: &Partition,
+    wanted: &[u32],
+    mates: &[Option<u32>],
+    next: &str,
+)
+    requires partition { length partition.now.next ≡ length market.now }
+    requires wanted { length wanted.now ≡ length market.now }
+    requires mates { length mates.now ≡ length market.now }
+{
+    for x in 0..market.persons() {
+        assert_eq!(rt; partition.next(x), wanted[x as usize], "{next}");
+        assert_eq!(rt; partition.mate(x), mates[x as usize], "{next}");
+    }
+}
+
 /// Makes sure of the successors, the mates and the lowest in an odd party.
 fn is_partition(
     rt: &(impl Abort + AllocGlobal),
@@ -70,20 +89,39 @@ fn is_partition(
     assert_eq!(rt; partition.odd_party(), odd, "{next}");
     assert_eq!(rt; wanted.len(), market.persons() as usize, "{next}");
     assert_eq!(rt; rest.len(), market.persons() as usize, "{next}");
-    for x in 0..market.persons() {
-        assert_eq!(rt; partition.next(x), wanted[x as usize], "{next}");
-        assert_eq!(rt; partition.mate(x), rest[x as usize], "{next}");
-    }
+    are_linked(rt, market, partition, &wanted, &rest, next);
+}
+
+/// Makes sure of the stable partition by both phases.
+fn parts_at_once(
+    rt: &(impl Abort + AllocGlobal),
+    market: &RoomMarket,
+    next: &str,
+    mates: &str,
+    odd: Option<u32>,
+) {
+    let whole = stable_partition(rt.alloc(), market).expect(rt, MEMORY);
+    is_partition(rt, market, &whole, next, mates, odd);
+}
+
+/// Makes sure of the stable partition by one phase after the other.
+fn parts_by_phases(
+    rt: &(impl Abort + AllocGlobal),
+    market: &RoomMarket,
+    next: &str,
+    mates: &str,
+    odd: Option<u32>,
+) {
+    let table = phase_one(rt.alloc(), market).expect(rt, MEMORY);
+    let partition = phase_two(rt.alloc(), market, table).expect(rt, MEMORY);
+    is_partition(rt, market, &partition, next, mates, odd);
 }
 
 /// Makes sure of the stable partition of these lists, once by both phases and once by one after the other.
 fn parts(rt: &(impl Abort + AllocGlobal), text: &str, next: &str, mates: &str, odd: Option<u32>) {
     let market = roommates(rt, text);
-    let whole = stable_partition(rt.alloc(), &market).expect(rt, MEMORY);
-    is_partition(rt, &market, &whole, next, mates, odd);
-    let table = phase_one(rt.alloc(), &market).expect(rt, MEMORY);
-    let partition = phase_two(rt.alloc(), &market, table).expect(rt, MEMORY);
-    is_partition(rt, &market, &partition, next, mates, odd);
+    parts_at_once(rt, &market, next, mates, odd);
+    parts_by_phases(rt, &market, next, mates, odd);
 }
 
 /// Makes sure of the lists of a table.

@@ -1,23 +1,18 @@
 //! The best stable matchings of both sides.
 
-use crate::made::{MEMORY, agent, copy, small_hospitals, two};
+use crate::made::{MEMORY, agent, marriage, small_hospitals, two};
 use sm_answer_solve::find_solution;
-use sm_instance::{Instance, Kind, Side};
+use sm_instance::{Instance, Side};
 use sm_seats::seat_counts;
 use std::process::Abort;
 
 /// Each proposer likes best the reviewer that likes it least.
 fn opposed(rt: &(impl Abort + AllocGlobal)) -> Instance {
-    Instance::build(
-        rt.alloc(),
-        Kind::Marriage,
+    marriage(
+        rt,
         two(rt, agent(rt, b'a', 1, &[0, 1]), agent(rt, b'b', 1, &[1, 0])),
         two(rt, agent(rt, b'c', 1, &[1, 0]), agent(rt, b'd', 1, &[0, 1])),
-        copy(rt, &[]),
-        copy(rt, &[]),
-        copy(rt, &[]),
     )
-    .expect(rt, "an instance")
 }
 
 /// The best stable matching of a side has these places.
@@ -33,17 +28,23 @@ fn has_best(
     assert!(rt; solution.best.places.as_slice() == places);
 }
 
+/// The small hospitals have one stable matching.
+fn both_have_one(rt: &(impl Abort + AllocGlobal)) {
+    let hospitals = small_hospitals(rt);
+    let places = [Some(0), Some(1), Some(0)];
+    has_best(rt, &hospitals, None, &places);
+    has_best(rt, &hospitals, Some(Side::Reviewers), &places);
+}
+
+/// Each opposed side has its first choices.
+fn each_has_its_own(rt: &(impl Abort + AllocGlobal)) {
+    let marriage = opposed(rt);
+    has_best(rt, &marriage, Some(Side::Proposers), &[Some(0), Some(0)]);
+    has_best(rt, &marriage, Some(Side::Reviewers), &[Some(1), Some(1)]);
+}
+
 #[test]
 fn both_sides_have_their_best(rt: HostRuntime) {
-    let hospitals = small_hospitals(&rt);
-    has_best(&rt, &hospitals, None, &[Some(0), Some(1), Some(0)]);
-    has_best(
-        &rt,
-        &hospitals,
-        Some(Side::Reviewers),
-        &[Some(0), Some(1), Some(0)],
-    );
-    let marriage = opposed(&rt);
-    has_best(&rt, &marriage, Some(Side::Proposers), &[Some(0), Some(0)]);
-    has_best(&rt, &marriage, Some(Side::Reviewers), &[Some(1), Some(1)]);
+    both_have_one(&rt);
+    each_has_its_own(&rt);
 }
