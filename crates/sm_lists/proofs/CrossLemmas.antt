@@ -1,10 +1,10 @@
 -- Writing the cross places of one side, and finding those of the other, agent by agent.
 use Rattle.std.proofs.Common.{IfSome, ◌≡◌, ℕ, ◌+◌, ◌<◌, ◌≤◌, List, [], ◌∷◌, Option, None, length, map, get_or, set, replicate, zero, suc, refl, sym, ap, subst, ◌∙◌, arith, ⊎_elim}
 use Rattle.std.proofs.lemmas.Bool.{cases_lt}
-use Rattle.std.proofs.lemmas.List.{get_or-map, get_or-replicate, get_or_past, length-map, length-replicate, length-set, map-set, set_past}
+use Rattle.std.proofs.lemmas.List.{get_or-replicate, get_or_past, length-map, length-replicate, length-set, map-set, set_past}
 use Rattle.std.proofs.Math.ListN.{get_or-map as get_or-map_all}
 use Rattle.sm_lists.specs.Rows.{row, entry}
-use Rattle.sm_lists.specs.Crosses.{found_on, cross_place, AreCrossPlacesOf, AreCrossPlaces}
+use Rattle.sm_lists.specs.Crosses.{found_on, cross_place, AreCrossPlaces}
 use Rattle.sm_lists.specs.Namings.{naming_at, AreNamingsOf}
 use Rattle.sm_lists.specs.Held.{held_in}
 use Rattle.sm_lists.specs.Kept.{noted_of, ArePlacesBefore}
@@ -129,17 +129,6 @@ places_end {rows} {others} {crosses} {b} all s =
       };
     }
 
--- what is noted in b's round is found for every agent
-pub places_from_notes : {rows : List (List ℕ)} {b : ℕ} (places : List (Option ℕ)) → length places ≡ length rows → ((a : ℕ) → a < length places → noted_of places a ≡ cross_place rows a b)
-    → (others : List (List ℕ)) (crosses : List (Option ℕ)) → crosses ≡ map (noted_of places) (row others b) → AreCrossPlacesOf others rows b crosses
-places_from_notes {rows} {b} places long found others crosses is =
-    let everywhere : (a : ℕ) → noted_of places a ≡ cross_place rows a b =
-    λ a. ⊎_elim (λ inside. found a inside) (λ past. get_or_past places a None past ∙ no_cross_place rows a b (omega arith)) (cases_lt a (length places)) in
-    record {
-      as_long = ap length is ∙ length-map (row others b) (noted_of places);
-      places = λ j on. ap (λ l. get_or l j None) is ∙ get_or-map (noted_of places) (row others b) j 0 None on ∙ everywhere (entry others b j);
-    }
-
 -- what is found on lists of at most so many entries is a place below that
 pub noted_fits : (places : List (Option ℕ)) (list_for : ℕ → List ℕ) (b_for : ℕ → ℕ) (most : ℕ) → ((a : ℕ) → length (list_for a) ≤ most)
     → ((a : ℕ) → a < length places → noted_of places a ≡ found_on (list_for a) (b_for a)) → (a : ℕ) → IfSome (noted_of places a) (λ i. i < most)
@@ -162,27 +151,3 @@ held_in-filled f x y [] is = refl
 held_in-filled f x y (list ∷ rows) is =
     ap (λ l. l ∷ held_in f (map (λ list. replicate (length list) x) rows)) (map_copies f (length list) x y is)
     ∙ ap (λ ls. replicate (length list) y ∷ ls) (held_in-filled f x y rows is)
-
--- what is found for each item of a list is as much
-pub found_long : {X : Type 0} (f : X → Option ℕ) (places : List X) (noted : ℕ → Option ℕ) {list row_ : List ℕ} → map f places ≡ map noted list → list ≡ row_ → length places ≡ length row_
-found_long f places noted {list} is same = sym (length-map places f) ∙ ap (λ (l : List (Option ℕ)). length l) is ∙ length-map list noted ∙ ap (λ (l : List ℕ). length l) same
-
--- each list is as long after one is put that is
-pub put_long : {X : Type 0} (lists : List (List X)) (b : ℕ) (new : List X) (others : List (List ℕ)) → b < length lists → length new ≡ length (row others b)
-    → ((c : ℕ) → length (get_or lists c []) ≡ length (row others c)) → (c : ℕ) → length (get_or (set lists b new) c []) ≡ length (row others c)
-put_long {X} lists b new others inside here long = set_cases (λ c (l : List X). length l ≡ length (row others c)) lists b new [] inside here (λ c _. long c)
-
--- with the cross places of b's list put, those of the lists up to b's are found
-pub put_places : {X : Type 0} (f : X → Option ℕ) (lists : List (List X)) (b : ℕ) (new : List X) (others rows : List (List ℕ)) → b < length lists → AreCrossPlacesOf others rows b (map f new)
-    → ((c : ℕ) → c < b → AreCrossPlacesOf others rows c (get_or (held_in f lists) c [])) → (c : ℕ) → c < b + 1 → AreCrossPlacesOf others rows c (get_or (held_in f (set lists b new)) c [])
-put_places {X} f lists b new others rows inside here before c l =
-    let Of : ℕ → List (Option ℕ) → Type 0 = λ d places. AreCrossPlacesOf others rows d places in
-    let of : Of c (map f (get_or (set lists b new) c [])) = set_cases (λ d (x : List X). d < b + 1 → Of d (map f x)) lists b new [] inside (λ _. here)
-    (λ d ne lower. subst (Of d) (get_or-map_all (map f) lists d []) (before d (omega arith))) c l in
-    subst (Of c) (sym (get_or-map_all (map f) (set lists b new) c [])) of
-
--- what stands where nothing is written is as long as the lists
-pub length_unwritten : (others : List (List ℕ)) (c : ℕ) → (let none : Option ℕ = None in length (get_or (map (λ (list : List ℕ). replicate (length list) none) others) c []) ≡ length (row others c))
-length_unwritten others c =
-    let none : Option ℕ = None in
-    ap length (get_or-map_all (λ (list : List ℕ). replicate (length list) none) others c []) ∙ length-replicate (length (row others c)) none

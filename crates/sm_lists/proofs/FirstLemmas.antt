@@ -1,5 +1,5 @@
 -- Noting places one after another, so that each agent keeps its first.
-use Rattle.std.proofs.Common.{◌≡◌, ◌≢◌, ℕ, ◌+◌, ◌<◌, List, Option, Some, None, length, get_or, set, refl, sym, ap, subst, ◌∙◌, arith, ⊎_elim}
+use Rattle.std.proofs.Common.{◌≡◌, ◌≢◌, ℕ, ◌+◌, ◌<◌, false, true≢false, is_some, List, Option, Some, None, length, get_or, set, refl, sym, ap, subst, ◌∙◌, arith, ⊎_elim}
 use Rattle.std.proofs.lemmas.Bool.{cases_lt, cases_eq}
 use Rattle.std.proofs.lemmas.Option.{same_Some, none-some}
 use Rattle.std.proofs.lemmas.List.{length-set, get_or_past, get_or-set_same, get_or-set_other}
@@ -75,30 +75,44 @@ first_on_list list places s a inside = go (noted_of places a) refl
         let on : i < length list = let l = w.below in omega arith in
         found_on_is list a i on (subst (λ j. get_or list j 0 ≡ a) at w.is) (λ j l. w.before j (omega arith))
 
--- with all namings of b noted, its place on each list is
-pub first_of_namings : (namings : List Naming) (places : List (Option ℕ)) → AreFirst (λ e. (naming_at namings e).by) (λ e. (naming_at namings e).place) (length namings) places
-    → (rows : List (List ℕ)) (b : ℕ) → AreNamingsOf rows (length rows) 0 b namings → (a : ℕ) → a < length places → noted_of places a ≡ cross_place rows a b
-first_of_namings namings places s rows b n a inside = go (noted_of places a) refl
-  where
-    go : (o : Option ℕ) → noted_of places a ≡ o → o ≡ cross_place rows a b
-    go None none =
-        found_on-none (row rows a) b
-        (λ i on there. let w = n.earlier_named a i (row_in_range rows a i on) on there in s.noted w.at a w.there w.by inside none)
-    go (Some i) is =
-        let w = s.first a i is in
-        let P : (ℕ → ℕ → Type 0) → Type 0 = λ Q. Q (naming_at namings w.at).by (naming_at namings w.at).place → Q a i in
-        let read : (Q : ℕ → ℕ → Type 0) → P Q = λ Q q. subst (Q a) w.told (subst (λ c. Q c (naming_at namings w.at).place) w.is q) in
-        let on : i < length (row rows a) = read (λ c j. j < length (row rows c)) (n.on_list w.at w.below) in
-        let there : entry rows a i ≡ b = read (λ c j. entry rows c j ≡ b) (n.names w.at w.below) in
-        found_on_is (row rows a) b i on there
-        (λ j lower same.
-        let v = n.earlier_named a j (row_in_range rows a j (omega arith)) (omega arith) same in
-        let v_place = v.place in
-        let w_place = w.told in
-        ⊎_elim
-        (λ l. w.before v.at l v.by)
-        (λ le. ⊎_elim
-        (λ here. let e = ap (λ f. (naming_at namings f).place) here in omega arith)
-        (λ other. let above = n.ordered w.at v.at (omega arith) v.there (w.is ∙ sym v.by) in omega arith)
-        (cases_eq v.at w.at))
-        (cases_lt v.at w.at))
+-- an agent that makes none of the namings of b doesn't name it
+pub never_named : (namings : List Naming) (rows : List (List ℕ)) (b a : ℕ) → AreNamingsOf rows (length rows) 0 b namings → ((e : ℕ) → e < length namings → (naming_at namings e).by ≢ a)
+    → let none : Option ℕ = None in none ≡ cross_place rows a b
+never_named namings rows b a n never =
+    found_on-none (row rows a) b (λ i on there. let w = n.earlier_named a i (row_in_range rows a i on) on there in never w.at w.there w.by)
+
+-- the first naming of b by an agent tells its place on that agent's list
+pub first_named : {namings : List Naming} {a i : ℕ} (rows : List (List ℕ)) (b : ℕ) → AreNamingsOf rows (length rows) 0 b namings
+    → IsFirstKey (λ e. (naming_at namings e).by) (λ e. (naming_at namings e).place) (length namings) a i → Some i ≡ cross_place rows a b
+first_named {namings} {a} {i} rows b n w =
+    let P : (ℕ → ℕ → Type 0) → Type 0 = λ Q. Q (naming_at namings w.at).by (naming_at namings w.at).place → Q a i in
+    let read : (Q : ℕ → ℕ → Type 0) → P Q = λ Q q. subst (Q a) w.told (subst (λ c. Q c (naming_at namings w.at).place) w.is q) in
+    let on : i < length (row rows a) = read (λ c j. j < length (row rows c)) (n.on_list w.at w.below) in
+    let there : entry rows a i ≡ b = read (λ c j. entry rows c j ≡ b) (n.names w.at w.below) in
+    found_on_is (row rows a) b i on there
+    (λ j lower same.
+    let v = n.earlier_named a j (row_in_range rows a j (omega arith)) (omega arith) same in
+    let v_place = v.place in
+    let w_place = w.told in
+    ⊎_elim
+    (λ l. w.before v.at l v.by)
+    (λ le. ⊎_elim
+    (λ here. let e = ap (λ f. (naming_at namings f).place) here in omega arith)
+    (λ other. let above = n.ordered w.at v.at (omega arith) v.there (w.is ∙ sym v.by) in omega arith)
+    (cases_eq v.at w.at))
+    (cases_lt v.at w.at))
+
+-- where nobody was noted twice each agent that is noted has the place that was noted last
+pub once_more : (list : List ℕ) (n : ℕ) (places : List (Option ℕ)) (o : Option ℕ) → noted_of places (get_or list n 0) ≡ o → is_some o ≡ false
+    → ((k : ℕ) → k < n → get_or list k 0 < length places → noted_of places (get_or list k 0) ≡ Some k)
+    → (k : ℕ) → k < n + 1 → get_or list k 0 < length places → noted_of (first_noted o places (get_or list n 0) n) (get_or list k 0) ≡ Some k
+once_more list n places (Some i) is seen once k l inside = absurd (true≢false seen)
+once_more list n places None is seen once k l inside = ⊎_elim
+    (λ lower.
+    let before : noted_of places (get_or list k 0) ≡ Some k = once k lower inside in
+    get_or-set_other places (get_or list n 0) (get_or list k 0) (Some n) None (λ same. none-some k (sym is ∙ ap (noted_of places) (sym same) ∙ before)) ∙ before)
+    (λ le.
+    let last : n ≡ k = omega arith in
+    let P : ℕ → Type 0 = λ j. get_or list j 0 < length places → noted_of (set places (get_or list n 0) (Some n)) (get_or list j 0) ≡ Some j in
+    subst P last (λ within. get_or-set_same places (get_or list n 0) (Some n) None within) inside)
+    (cases_lt k n)

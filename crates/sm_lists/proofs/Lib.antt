@@ -2,12 +2,14 @@ pub mod Counting
 pub mod PlaceLemmas
 pub mod ItemLemmas
 pub mod RowLemmas
+pub mod RangeLemmas
 pub mod ResultLemmas
 pub mod NoteLemmas
 pub mod FoundLemmas
 pub mod FirstLemmas
 pub mod NamingLemmas
 pub mod CrossLemmas
+pub mod BackLemmas
 pub mod Sums
 pub mod SpanLemmas
 pub mod RaisedLemmas

@@ -1,12 +1,10 @@
 -- Lists of which each stands between two places of all items, with room behind it.
 use Rattle.std.proofs.Common.{Bor, Vec, ◌≡◌, ◌≢◌, ℕ, zero, suc, ◌+◌, ◌-◌, ◌<◌, ◌≤◌, ◌⊎◌, inl, inr, ◌++◌, ◌∷◌, [], List, length, map, take, drop, replicate, set, get_or, refl, sym, ap, subst, ◌∙◌, arith, ⊎_elim}
 use Rattle.std.proofs.lemmas.Bool.{cases_lt}
-use Rattle.std.proofs.lemmas.List.{with_items_is, map_more, append_assoc, length-append, set_at, get_or_at, drop_more, get_or_read, get_or-map, length-map, take-map, length-drop, length-set, length-take-le, drop-set-lt, drop-set-add, take-set-le, take_more_set, take-append-drop, take-append-le, drop-append-le, set-get_or, set-set, get_or-set_same, drop-replicate, take-replicate, map_push, take_all}
+use Rattle.std.proofs.lemmas.List.{with_items_is, map_more, append_assoc, set_at, get_or_at, drop_more, get_or_read, get_or-map, length-map, take-map, length-drop, length-set, length-take-le, drop-set-lt, drop-set-add, take-set-le, take_more_set, take-append-drop, take-append-le, drop-append-le, set-get_or, set-set, get_or-set_same, drop-replicate, take-replicate, map_push, take_all}
 use Rattle.std.proofs.lemmas.List.Sums.{sum_by_more_le}
-use Rattle.std.proofs.lemmas.Slice.{drop-append-drop}
 use Rattle.std.proofs.lemmas.Simd.{map-map}
 use Rattle.std.proofs.Math.ListN.{get_or-map as get_or-map_all}
-use Rattle.std.proofs.Math.Seq.{drop-append_seam, take-append_seam}
 use Rattle.std.specs.List.{sum_by}
 use Rattle.std.specs.Vec.{with_items}
 use Rattle.std.specs.declared.alloc.Global.{Global}
@@ -96,72 +94,6 @@ list_moved old new r others ordered within =
     ap (λ t. packed_list t r) is
     ∙ ap (take (filled_in r)) (drop-append-le r.start old rest (omega arith))
     ∙ take-append-le (filled_in r) (drop r.start old) rest (omega arith)
-
--- the items, those of a list among them replaced
-abbrev pub replaced : {T : Type 0} → List T → ℕ → List T → List T
-replaced items start new = (take start items ++ new) ++ drop (start + length new) items
-
--- there are as many
-pub replaced_as_many : {T : Type 0} (items new : List T) (start : ℕ) → start + length new ≤ length items → length (replaced items start new) ≡ length items
-replaced_as_many items new start inside =
-    let front = length-take-le start items (omega arith) in
-    let rest = length-drop (start + length new) items in
-    let whole = length-append (take start items ++ new) (drop (start + length new) items) in
-    let both = length-append (take start items) new in
-    omega arith
-
--- that list
-list_replaced : {T : Type 0} (items new : List T) (r : Slot) → r.start ≤ r.end → r.end ≤ length items → length new ≡ filled_in r → packed_list (replaced items r.start new) r ≡ new
-list_replaced items new r ordered within long =
-    let front = take r.start items in
-    let rest = drop (r.start + length new) items in
-    let at : length front ≡ r.start = length-take-le r.start items (omega arith) in
-    ap (λ t. take (filled_in r) (drop r.start t)) (append_assoc front new rest)
-    ∙ ap (λ n. take (filled_in r) (drop n (front ++ (new ++ rest)))) (sym at)
-    ∙ ap (take (filled_in r)) (drop-append_seam front (new ++ rest))
-    ∙ ap (λ n. take n (new ++ rest)) (sym long)
-    ∙ take-append_seam new rest
-
--- a list that stands before it or behind it
-list_untouched : {T : Type 0} (items new : List T) (start : ℕ) (q : Slot) → start + length new ≤ length items → q.start ≤ q.end → q.end ≤ q.limit
-    → ((q.limit ≤ start) ⊎ (start + length new ≤ q.start)) → packed_list (replaced items start new) q ≡ packed_list items q
-list_untouched items new start q inside ordered filled outside =
-    let front = take start items in
-    let rest = drop (start + length new) items in
-    let at : length front ≡ start = length-take-le start items (omega arith) in
-    ⊎_elim
-    (λ before.
-    list_moved front (replaced items start new) q (ap (take (length front)) (append_assoc front new rest) ∙ take-append_seam front (new ++ rest)) ordered (omega arith)
-    ∙ sym (list_moved front items q (ap (λ n. take n items) at) ordered (omega arith)))
-    (λ behind. ap (take (filled_in q)) (drop-append-drop (start + length new) items (front ++ new) q.start behind (length-append front new ∙ ap (λ n. n + length new) at)))
-    outside
-
--- all items of a list are replaced
-pub lists_replaced : {T : Type 0} (items new : List T) (slots : List Slot) (a start : ℕ) → AreSlots (length items) slots → start ≡ (get_or slots a no_slot).start
-    → length new ≡ length (get_or (packed_lists items slots) a []) → packed_lists (replaced items start new) slots ≡ set (packed_lists items slots) a new
-lists_replaced items new slots a start h is as_many =
-    let r : Slot = get_or slots a no_slot in
-    let ordered : r.start ≤ r.end = h.ordered a in
-    let filled : r.end ≤ r.limit = h.filled a in
-    let within : r.limit ≤ length items = h.within a in
-    let long : length new ≡ filled_in r = as_many ∙ ap length (list_read items slots a) ∙ long_as_filled items r ordered (omega arith) in
-    ap (λ n. packed_lists (replaced items n new) slots) is
-    ∙ ap (packed_lists (replaced items r.start new)) (sym (set-get_or slots a no_slot))
-    ∙ map-set_alike (packed_list items) (packed_list (replaced items r.start new)) slots a r no_slot
-    (λ b ne. list_untouched items new r.start (get_or slots b no_slot) (omega arith) (h.ordered b) (h.filled b)
-    (⊎_elim (λ before. inl (omega arith)) (λ behind. inr (omega arith)) (h.apart b a ne)))
-    ∙ ap (set (packed_lists items slots) a) (list_replaced items new r ordered (omega arith) long)
-
--- the items of a list whose slot is read stand among all items
-pub list_within : {T : Type 0} (items new : List T) (slots : List Slot) (a start : ℕ) → AreSlots (length items) slots → start ≡ (get_or slots a no_slot).start
-    → length new ≡ length (get_or (packed_lists items slots) a []) → start + length new ≤ length items
-list_within items new slots a start h is as_many =
-    let r : Slot = get_or slots a no_slot in
-    let ordered : r.start ≤ r.end = h.ordered a in
-    let filled : r.end ≤ r.limit = h.filled a in
-    let within : r.limit ≤ length items = h.within a in
-    let long : length new ≡ filled_in r = as_many ∙ ap length (list_read items slots a) ∙ long_as_filled items r ordered (omega arith) in
-    omega arith
 
 -- one more item on a list whose slot r isn't full
 lists_added : {T : Type 0} (items : List T) (slots : List Slot) (a : ℕ) (r s : Slot) (x : T) → AreSlots (length items) slots → get_or slots a no_slot ≡ r → r.end < r.limit

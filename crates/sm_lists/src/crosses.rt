@@ -1,16 +1,17 @@
 //! Where each agent stands on the lists of those whom it names, and who names whom.
 //!
 //! The lists of one side are turned over first, into one vector for each agent of the other side of who names it and where.
-//! Then each agent of the other side has a round, in which it is noted who stands where on its list, and where each names
-//! it. The first tells the cross places of the entries that name it, and the second those of its own entries.
+//! Then each agent of the other side has a round, in which it is noted who stands where on its list. Whoever names it reads its
+//! cross place from there, and is read there with the place of its own: so one pass over those who name an agent writes the
+//! cross places of both sides.
 
-ghost use Rattle.std.specs.Prelude.{◌≡◌, ◌≢◌, ℕ, ◌+◌, ◌<◌, ◌≤◌, [], ◌^◌, List, length, map, slice_index_or, IfOk, IfSome, OnOk};
+ghost use Rattle.std.specs.Prelude.{◌≡◌, ◌≢◌, ℕ, ◌+◌, ◌<◌, ◌≤◌, [], ◌^◌, List, Option, Some, None, false, length, map, slice_index, slice_index_or, IfOk, IfSome, OnOk};
 ghost use Rattle.sm_lists.specs.Rows.{row, lists_in};
 ghost use Rattle.sm_lists.specs.Limits.{AreWithinLimits};
 ghost use Rattle.sm_lists.specs.Crosses.{found_on, cross_place, AreCrossPlaces};
 ghost use Rattle.sm_lists.specs.Namings.{naming_at, AreNamingsOf, AreNamings};
 ghost use Rattle.sm_lists.specs.Held.{held_in, AreShort};
-ghost use Rattle.sm_lists.specs.Kept.{noted_of, ArePlacesBefore};
+ghost use Rattle.sm_lists.specs.Kept.{noted_of, put_once, shared_from, ArePlacesBefore, AreKeptBut, HaveFirst, HaveAll};
 
 use crate::naming::{KeptNaming, Naming};
 use crate::notes::Notes;
@@ -59,14 +60,11 @@ pub fn cross_places<C: KeptPlace, N: KeptNaming>(
     let mut of_rows: Packed<C> = Packed::filled(alloc, rows, C::of(None))?;
     let mut of_others: Packed<C> = Packed::filled(alloc, others, C::of(None))?;
     let mut listed = Notes::new(alloc, rows.len())?;
-    let mut named = Notes::new(alloc, rows.len())?;
-    let mut places = Vec::new(alloc);
     for b in 0..others.len() as u32 {
         let list = lent_at(others, b);
-        note_list(list, &mut listed);
-        write_namings(namings.at(b), &listed, &mut named, &mut of_rows);
-        find_places(list, &named, &mut places)?;
-        of_others.put_list(b, &places);
+        let repeats = note_list(list, &mut listed);
+        write_namings(b, namings.at(b), &listed, &mut of_rows, &mut of_others);
+        share_places(repeats, b, list, &listed, &mut of_others);
     }
     Ok(CrossPlaces {
         rows: of_rows,
@@ -127,70 +125,137 @@ fn add_namings<N: KeptNaming>(
     Ok(())
 }
 
-/// Notes, in a new round, each agent's first place on a list.
-fn note_list(list: &[u32], notes: &mut Notes)
+/// Notes, in a new round, each agent's first place on a list. Whether an agent who is noted stands on it twice.
+fn note_list(list: &[u32], notes: &mut Notes) -> bool
     requires round { notes.old.rounds + 1 < 2 ^ 32 }
     requires short { length list.now < 2 ^ 24 }
     ensures round { notes.new.rounds ≡ notes.old.rounds + 1 }
     ensures one_each { length notes.new.places ≡ length notes.old.places }
     ensures found { (a : ℕ) → a < length notes.old.places → noted_of notes.new.places a
         ≡ found_on list.now a }
+    ensures once { result ≡ false → (k : ℕ) → k < length list.now → slice_index list.now k
+        < length notes.old.places
+        → noted_of notes.new.places (slice_index list.now k) ≡ Some k }
 {
     notes.clear();
+    let mut repeats = false;
     for place in 0..list.len() as u32 {
-        notes.note(list[place as usize], place);
+        repeats |= notes.note(list[place as usize], place);
     }
+    repeats
 }
 
-/// Writes the cross places of the entries that make these namings, where `listed` has the place of each agent on the list of
-/// the one that is named, and notes, in a new round, where each agent names it.
+/// Writes the cross places of the entries that make these namings of `b`, and beside the first place of each of those agents
+/// on its own list where they first name it, where `listed` has the first place of each agent there.
 fn write_namings<C: KeptPlace, N: KeptNaming>(
+    b: u32,
     namings: &[N],
     listed: &Notes,
-    named: &mut Notes,
-    crosses: &mut Packed<C>,
+    of_rows: &mut Packed<C>,
+    of_others: &mut Packed<C>,
 )
-    requires round { named.old.rounds + 1 < 2 ^ 32 }
+    requires few { length of_rows.old < 2 ^ 24 }
     requires by { (e : ℕ) → e < length namings.now
-        → (naming_at (map N.kept namings.now) e).by < length crosses.old }
+        → (naming_at (map N.kept namings.now) e).by < length of_rows.old }
     requires on_list { (e : ℕ) → e < length namings.now
         → (naming_at (map N.kept namings.now) e).place
-        < length (slice_index_or (held_in C.kept crosses.old)
+        < length (slice_index_or (held_in C.kept of_rows.old)
         (naming_at (map N.kept namings.now) e).by []) }
+    requires places_fit { (e : ℕ) → e < length namings.now
+        → (naming_at (map N.kept namings.now) e).place < C.most }
     requires fits { (a : ℕ) → IfSome (noted_of listed.now.places a) (λ place. place < C.most) }
-    ensures round { named.new.rounds ≡ named.old.rounds + 1 }
-    ensures one_each { length named.new.places ≡ length named.old.places }
-    ensures found { (rows : List (List ℕ)) (b : ℕ) → AreNamingsOf rows (length rows) 0 b
-        (map N.kept namings.now)
-        → (a : ℕ) → a < length named.old.places → noted_of named.new.places a
-        ≡ cross_place rows a b }
-    ensures written { (rows others : List (List ℕ)) (b : ℕ) → AreNamingsOf rows (length rows) 0 b
+    requires in_range { b < length of_others.old }
+    requires noted { (a : ℕ) → IfSome (noted_of listed.now.places a) (λ place. place
+        < length (slice_index_or (held_in C.kept of_others.old) b [])) }
+    ensures written { (rows others : List (List ℕ)) → AreNamingsOf rows (length rows) 0 b
         (map N.kept namings.now)
         → ((a : ℕ) → a < length rows → noted_of listed.now.places a ≡ cross_place others b a)
-        → ArePlacesBefore rows others b (held_in C.kept crosses.old)
-        → ArePlacesBefore rows others (b + 1) (held_in C.kept crosses.new) }
+        → ArePlacesBefore rows others b (held_in C.kept of_rows.old)
+        → ArePlacesBefore rows others (b + 1) (held_in C.kept of_rows.new) }
+    ensures kept { AreKeptBut b (held_in C.kept of_others.old) (held_in C.kept of_others.new) }
+    ensures first { (rows others : List (List ℕ)) → AreNamingsOf rows (length rows) 0 b
+        (map N.kept namings.now)
+        → length listed.now.places ≡ length rows
+        → ((a : ℕ) → a < length rows → noted_of listed.now.places a ≡ cross_place others b a)
+        → length (slice_index_or (held_in C.kept of_others.old) b []) ≡ length (row others b)
+        → ((k : ℕ) → slice_index_or (slice_index_or (held_in C.kept of_others.old) b []) k None ≡ None)
+        → HaveFirst (λ a. cross_place rows a b) (row others b) listed.now.places
+        (slice_index_or (held_in C.kept of_others.new) b []) }
 {
-    named.clear();
+    let mut last = u32::MAX;
     for naming in namings {
         let Naming { by, place } = naming.naming();
-        named.note(by, place);
-        crosses.put(by, place, C::of(listed.place(by)));
+        let at = listed.place(by);
+        of_rows.put(by, place, C::of(at));
+        put_first(of_others, b, at, place, by == last);
+        last = by;
     }
 }
 
-/// Finds the cross places of an agent's list, where `notes` has what each agent's cross place is.
-fn find_places<C: KeptPlace>(
-    list: &[u32],
-    notes: &Notes,
-    places: &mut Vec<C>,
-) -> Result<(), AllocError>
-    requires { (a : ℕ) → IfSome (noted_of notes.now.places a) (λ place. place < C.most) }
-    ensures { OnOk result (map C.kept places.new.items
-        ≡ map (noted_of notes.now.places) list.now) }
+/// Puts the place of a naming beside the place `at` of `b`'s list, where there is one and its agent didn't name `b` before.
+fn put_first<C: KeptPlace>(
+    crosses: &mut Packed<C>,
+    b: u32,
+    at: Option<u32>,
+    place: u32,
+    again: bool,
+)
+    requires in_range { b < length crosses.old }
+    requires on_list { IfSome at (λ k. k < length (slice_index_or (held_in C.kept crosses.old) b [])) }
+    requires fits { place < C.most }
+    ensures kept { AreKeptBut b (held_in C.kept crosses.old) (held_in C.kept crosses.new) }
+    ensures put { slice_index_or (held_in C.kept crosses.new) b []
+        ≡ put_once again at place (slice_index_or (held_in C.kept crosses.old) b []) }
 {
-    places.clear();
-    for named in list {
-        places.push(C::of(notes.place(*named)))?;
+    if again {
+        return;
     }
-    Ok(())
+    if let Some(k) = at {
+        crosses.put(b, k, C::of(Some(place)));
+    }
+}
+
+/// Where `b`'s list repeats somebody, each further place of an agent gets the cross place of its first, which `listed` has.
+fn share_places<C: KeptPlace>(
+    repeats: bool,
+    b: u32,
+    list: &[u32],
+    listed: &Notes,
+    crosses: &mut Packed<C>,
+)
+    requires in_range { b < length crosses.old }
+    requires short { length list.now < 2 ^ 24 }
+    requires as_long { length (slice_index_or (held_in C.kept crosses.old) b []) ≡ length list.now }
+    requires found { (a : ℕ) → a < length listed.now.places → noted_of listed.now.places a
+        ≡ found_on list.now a }
+    requires once { repeats ≡ false → (k : ℕ) → k < length list.now → slice_index list.now k
+        < length listed.now.places
+        → noted_of listed.now.places (slice_index list.now k) ≡ Some k }
+    ensures kept { AreKeptBut b (held_in C.kept crosses.old) (held_in C.kept crosses.new) }
+    ensures all { (own : ℕ → Option ℕ) → HaveFirst own list.now listed.now.places
+        (slice_index_or (held_in C.kept crosses.old) b [])
+        → HaveAll own list.now (slice_index_or (held_in C.kept crosses.new) b []) }
+{
+    if !repeats {
+        return;
+    }
+    for place in 0..list.len() as u32 {
+        share_place(crosses, b, listed.place(list[place as usize]), place);
+    }
+}
+
+/// Puts the cross place at `first` of an agent's list, where there is one, also at another place of that list.
+fn share_place<C: KeptPlace>(crosses: &mut Packed<C>, b: u32, first: Option<u32>, place: u32)
+    requires in_range { b < length crosses.old }
+    requires first { IfSome first (λ k. k
+        < length (slice_index_or (held_in C.kept crosses.old) b [])) }
+    requires on_list { place < length (slice_index_or (held_in C.kept crosses.old) b []) }
+    ensures kept { AreKeptBut b (held_in C.kept crosses.old) (held_in C.kept crosses.new) }
+    ensures shared { slice_index_or (held_in C.kept crosses.new) b []
+        ≡ shared_from first place (slice_index_or (held_in C.kept crosses.old) b []) }
+{
+    if let Some(first) = first {
+        let shared = crosses.at(b)[first as usize];
+        crosses.put(b, place, shared);
+    }
 }

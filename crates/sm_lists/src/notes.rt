@@ -1,6 +1,6 @@
 //! What is noted of each agent of a side while one list is looked at.
 
-ghost use Rattle.std.specs.Prelude.{◌≡◌, ℕ, ◌<◌, ◌^◌, ◌+◌, IfOk, None, length, replicate};
+ghost use Rattle.std.specs.Prelude.{◌≡◌, ℕ, ◌<◌, ◌^◌, ◌+◌, IfOk, None, is_some, length, replicate};
 ghost use Rattle.sm_lists.specs.Kept.{Noted, noted_of, first_noted};
 
 use std::alloc::{AllocError, Global};
@@ -49,19 +49,25 @@ impl Notes {
         self.round += 1;
     }
 
-    /// Notes a place for an agent, unless one is noted or the agent isn't of this side.
-    pub(crate) fn note(&mut self, a: u32, place: u32)
+    /// Notes a place for an agent, unless one is noted or the agent isn't of this side. Whether one was noted.
+    pub(crate) fn note(&mut self, a: u32, place: u32) -> bool
         ensures rounds { self.new.rounds ≡ self.old.rounds }
         ensures places { self.new.places ≡ first_noted (noted_of self.old.places a) self.old.places
             a place }
+        ensures again { result ≡ is_some (noted_of self.old.places a) }
     {
         let at = a as usize;
-        if at < self.notes.len() && self.notes[at].stamp != self.round {
-            self.notes[at] = Note {
-                stamp: self.round,
-                place,
-            };
+        if at >= self.notes.len() {
+            return false;
         }
+        if self.notes[at].stamp == self.round {
+            return true;
+        }
+        self.notes[at] = Note {
+            stamp: self.round,
+            place,
+        };
+        false
     }
 
     /// The place that is noted for an agent.

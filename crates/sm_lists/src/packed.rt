@@ -1,6 +1,6 @@
 //! Lists that stand in one vector, to each of which items can be added.
 
-ghost use Rattle.std.specs.Prelude.{◌≡◌, ◌+◌, ◌<◌, ◌≤◌, ◌++◌, ◌∷◌, [], length, map, replicate, take, drop, slice_set, slice_index_or, IfOk, OnOk, OnErr};
+ghost use Rattle.std.specs.Prelude.{◌≡◌, ◌+◌, ◌<◌, ◌≤◌, ◌++◌, ◌∷◌, [], length, map, replicate, slice_set, slice_index_or, IfOk, OnOk, OnErr};
 ghost use Rattle.sm_lists.specs.Rows.{lists_in};
 ghost use Rattle.sm_lists.specs.Limits.{AreWithinLimits};
 ghost use Rattle.sm_lists.specs.Packed.{AreFull, HasSpace, emptied};
@@ -101,16 +101,6 @@ impl<T: Copy> Packed<T> {
         self.items[start as usize + place as usize] = item;
     }
 
-    /// Puts as many items as an agent's list has in the place of those there. Takes time in proportion to them.
-    pub fn put_list(&mut self, a: u32, items: &[T])
-        requires in_range { a < length self.old }
-        requires as_many { length items.now ≡ length (slice_index_or self.old a []) }
-        ensures { self.new ≡ slice_set self.old a items.now }
-    {
-        let Slot { start, .. } = self.slots[a as usize];
-        put_items(&mut self.items, start as usize, items);
-    }
-
     /// An agent's list. Takes constant time.
     pub fn at(&self, a: u32) -> &[T]
         requires { a < length self.now }
@@ -155,14 +145,6 @@ fn copies<T: Copy>(alloc: Global, item: T, count: usize) -> Result<Vec<T>, Alloc
     let mut items = Vec::with_capacity(alloc, count)?;
     items.resize(count, item)?;
     Ok(items)
-}
-
-/// Puts items from a place on in the place of those there.
-fn put_items<T: Copy>(all: &mut [T], start: usize, items: &[T])
-    requires { start + length items.now ≤ length all.old }
-    ensures { all.new ≡ take start all.old ++ items.now ++ drop (start + length items.now) all.old }
-{
-    all[start..start + items.len()].copy_from_slice(items);
 }
 
 /// Takes all items off each list, and leaves its slot.

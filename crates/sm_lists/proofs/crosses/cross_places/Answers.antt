@@ -1,30 +1,40 @@
-use Rattle.std.proofs.Common.{◌≡◌, ◌<◌, ℕ, List, [], Option, None, length, map, get_or, set, ap, sym, subst, ◌∙◌, arith}
-use Rattle.std.proofs.lemmas.List.{length-map, length-replicate, length-set}
+use Rattle.std.proofs.Common.{◌≡◌, ◌<◌, ◌≤◌, ℕ, List, [], Option, None, length, map, get_or, ap, sym, subst, ◌∙◌, arith, ⊎_elim}
+use Rattle.std.proofs.lemmas.Bool.{cases_eq}
+use Rattle.std.proofs.lemmas.List.{length-map, length-replicate}
 use Rattle.sm_lists.specs.Rows.{row, lists_in}
 use Rattle.sm_lists.specs.Crosses.{found_on, cross_place, AreCrossPlacesOf}
 use Rattle.sm_lists.specs.Namings.{naming_at, AreNamingsOf}
 use Rattle.sm_lists.specs.Held.{held_in}
-use Rattle.sm_lists.specs.Kept.{noted_of, Noted}
+use Rattle.sm_lists.specs.Kept.{noted_of, Noted, AreKeptBut, HaveFirst, HaveAll}
 use Rattle.sm_lists.proofs.RowLemmas.{row_in_range}
 use Rattle.sm_lists.proofs.NamingLemmas.{namings_read}
-use Rattle.sm_lists.proofs.CrossLemmas.{places_start, places_end, places_from_notes, noted_fits, held_in-filled, length-held_in, found_long, put_long, put_places, length_unwritten}
+use Rattle.sm_lists.proofs.CrossLemmas.{places_start, places_end, noted_fits, held_in-filled}
+use Rattle.sm_lists.proofs.BackLemmas.{kept_more, own_places}
 use Rattle.sm_lists.proofs.crosses.cross_places.Goals as goal
 
 pub loop-b-init : goal.loop-b-init
 loop-b-init g c =
     let f = g.C.KeptPlace.kept in
-    let of_others = ap (map (map f)) c.in_ok-of_others.ensures ∙ held_in-filled f c.of-2.result None (lists_in c.args.others.now) c.of-2.ensures in
+    let start =
+    places_start (lists_in c.args.others.now) (lists_in c.args.rows.now) (held_in f c.in_ok-of_others.of_others)
+    (ap (map (map f)) c.in_ok-of_others.ensures ∙ held_in-filled f c.of-2.result None (lists_in c.args.others.now) c.of-2.ensures) in
     record {
       listed_rounds = ap (λ (n : Noted). n.rounds) c.in_ok-listed.ensures;
-      named_rounds = ap (λ (n : Noted). n.rounds) c.in_ok-named.ensures;
       listed_long = ap (λ (n : Noted). length n.places) c.in_ok-listed.ensures ∙ length-replicate _ _;
-      named_long = ap (λ (n : Noted). length n.places) c.in_ok-named.ensures ∙ length-replicate _ _;
       before = places_start (lists_in c.args.rows.now) (lists_in c.args.others.now) (held_in f c.in_ok-of_rows.of_rows)
           (ap (map (map f)) c.in_ok-of_rows.ensures ∙ held_in-filled f c.of.result None (lists_in c.args.rows.now) c.of.ensures);
-      back_each = sym (length-map c.in_ok-of_others.of_others (map f)) ∙ ap (λ lists. length lists) of_others ∙ length-map (lists_in c.args.others.now) _ ∙ length-map c.args.others.now _;
-      back_long = λ d. sym (length-held_in f c.in_ok-of_others.of_others d) ∙ ap (λ (lists : List (List (Option ℕ))). length (get_or lists d [])) of_others ∙ length_unwritten (lists_in c.args.others.now) d;
+      back_each = start.one_each;
+      back_long = start.as_long;
       back_of = λ d l. absurd (omega arith);
+      back_none = λ d k l. start.unwritten d k (omega arith);
     }
+
+pub write_namings-requires-clause-few : goal.write_namings-requires-clause-few
+write_namings-requires-clause-few g c =
+    let same = c.loop-b.invariant.before.one_each in
+    let held = length-map c.loop-b.of_rows (map g.C.KeptPlace.kept) in
+    let few = c.requires.rows.agents in
+    omega arith
 
 pub write_namings-requires-clause-by : goal.write_namings-requires-clause-by
 write_namings-requires-clause-by g c = λ e l.
@@ -53,27 +63,53 @@ write_namings-requires-clause-on_list g c = λ e l.
     let same = c.loop-b.invariant.before.as_long x.by in
     omega arith
 
-pub write_namings-requires-clause-fits : goal.write_namings-requires-clause-fits
-write_namings-requires-clause-fits g c =
-    let list = row (lists_in c.args.others.now) c.loop-b.b in
-    let same = c.note_list.ensures.one_each in
-    noted_fits c.note_list.new.notes.places (λ _. list) (λ a. a) g.C.KeptPlace.most (λ _. c.requires.short_others.lists c.loop-b.b)
-    (λ a l. c.note_list.ensures.found a (omega arith) ∙ ap (λ s. found_on s a) c.lent_at-list.ensures)
-
-pub find_places-requires : goal.find_places-requires
-find_places-requires g c =
+pub write_namings-requires-clause-places_fit : goal.write_namings-requires-clause-places_fit
+write_namings-requires-clause-places_fit g c = λ e l.
     let rows : List (List ℕ) = lists_in c.args.rows.now in
     let items = c.at.result.now in
     let many = length-map c.args.others.now (λ list. list.now) in
     let named : AreNamingsOf rows (length rows) 0 c.loop-b.b (map g.N.KeptNaming.kept items) =
     namings_read g.N.KeptNaming.kept c.in_ok-namings.namings c.loop-b.b items c.in_ok-namings.ensures (omega arith) c.at.ensures in
-    let same = c.write_namings.ensures.one_each in
-    noted_fits c.write_namings.new.named.places (λ a. row rows a) (λ _. c.loop-b.b) g.C.KeptPlace.most c.requires.short_rows.lists
-    (λ a l. c.write_namings.ensures.found rows c.loop-b.b named a (omega arith))
+    let long = length-map items g.N.KeptNaming.kept in
+    let x = naming_at (map g.N.KeptNaming.kept items) e in
+    let on = named.on_list e (omega arith) in
+    let short = c.requires.short_rows.lists x.by in
+    omega arith
 
-pub put_list-requires-clause-as_many : goal.put_list-requires-clause-as_many
-put_list-requires-clause-as_many g c =
-    ap length c.deref.ensures.value ∙ found_long g.C.KeptPlace.kept c.find_places.new.places.items _ c.in_ok-find_places.ensures c.lent_at-list.ensures ∙ sym (c.loop-b.invariant.back_long c.loop-b.b)
+pub write_namings-requires-clause-fits : goal.write_namings-requires-clause-fits
+write_namings-requires-clause-fits g c =
+    let list = row (lists_in c.args.others.now) c.loop-b.b in
+    let same = c.note_list-repeats.ensures.one_each in
+    noted_fits c.note_list-repeats.new.notes.places (λ _. list) (λ a. a) g.C.KeptPlace.most (λ _. c.requires.short_others.lists c.loop-b.b)
+    (λ a l. c.note_list-repeats.ensures.found a (omega arith) ∙ ap (λ s. found_on s a) c.lent_at-list.ensures)
+
+pub write_namings-requires-clause-in_range : goal.write_namings-requires-clause-in_range
+write_namings-requires-clause-in_range g c =
+    let many = length-map c.args.others.now (λ list. list.now) in
+    let same = c.loop-b.invariant.back_each in
+    let held = length-map c.loop-b.of_others (map g.C.KeptPlace.kept) in
+    omega arith
+
+pub write_namings-requires-clause-noted : goal.write_namings-requires-clause-noted
+write_namings-requires-clause-noted g c =
+    let list : List ℕ = row (lists_in c.args.others.now) c.loop-b.b in
+    let crosses : List (Option ℕ) = get_or (held_in g.C.KeptPlace.kept c.loop-b.of_others) c.loop-b.b [] in
+    let same = c.note_list-repeats.ensures.one_each in
+    let le : length list ≤ length crosses = let long = c.loop-b.invariant.back_long c.loop-b.b in omega arith in
+    noted_fits c.note_list-repeats.new.notes.places (λ _. list) (λ a. a) (length crosses) (λ _. le)
+    (λ a l. c.note_list-repeats.ensures.found a (omega arith) ∙ ap (λ s. found_on s a) c.lent_at-list.ensures)
+
+pub share_places-requires-clause-in_range : goal.share_places-requires-clause-in_range
+share_places-requires-clause-in_range g c =
+    let many = length-map c.args.others.now (λ list. list.now) in
+    let each = c.loop-b.invariant.back_each in
+    let same = c.write_namings.ensures.kept.one_each in
+    let held = length-map c.write_namings.new.of_others (map g.C.KeptPlace.kept) in
+    omega arith
+
+pub share_places-requires-clause-as_long : goal.share_places-requires-clause-as_long
+share_places-requires-clause-as_long g c =
+    c.write_namings.ensures.kept.as_long c.loop-b.b ∙ c.loop-b.invariant.back_long c.loop-b.b ∙ sym (ap (λ (list : List ℕ). length list) c.lent_at-list.ensures)
 
 pub loop-b-preserved : goal.loop-b-preserved
 loop-b-preserved g c =
@@ -87,29 +123,32 @@ loop-b-preserved g c =
     let all = length-map c.args.rows.now (λ list. list.now) in
     let named : AreNamingsOf rows (length rows) 0 b (map g.N.KeptNaming.kept items) =
     namings_read g.N.KeptNaming.kept c.in_ok-namings.namings b items c.in_ok-namings.ensures (omega arith) c.at.ensures in
-    let listed_same = c.note_list.ensures.one_each in
-    let named_same = c.write_namings.ensures.one_each in
+    let noted : List (Option ℕ) = c.note_list-repeats.new.notes.places in
+    let listed_same = c.note_list-repeats.ensures.one_each in
     let listed_long = before.listed_long in
-    let named_long = before.named_long in
-    let notes : (a : ℕ) → a < length rows → noted_of c.note_list.new.notes.places a ≡ cross_place others b a =
-    λ a l. c.note_list.ensures.found a (omega arith) ∙ ap (λ s. found_on s a) c.lent_at-list.ensures in
-    let old = c.loop-b.of_others in
-    let places = c.find_places.new.places.items in
-    let put = c.put_list.ensures ∙ ap (λ items. set old b items) c.deref.ensures.value in
-    let inside : b < length old = let each = before.back_each in omega arith in
-    let as_long = found_long f places _ c.in_ok-find_places.ensures c.lent_at-list.ensures in
-    let own : AreCrossPlacesOf others rows b (map f places) =
-    places_from_notes c.write_namings.new.named.places (omega arith) (λ a l. c.write_namings.ensures.found rows b named a (omega arith)) others _
-    (c.in_ok-find_places.ensures ∙ ap (map (noted_of c.write_namings.new.named.places)) c.lent_at-list.ensures) in
+    let sides : length noted ≡ length rows = omega arith in
+    let notes : (a : ℕ) → a < length rows → noted_of noted a ≡ cross_place others b a =
+    λ a l. c.note_list-repeats.ensures.found a (omega arith) ∙ ap (λ s. found_on s a) c.lent_at-list.ensures in
+    let crosses : List (List (Option ℕ)) = held_in f c.share_places.new.crosses in
+    let kept : AreKeptBut b (held_in f c.loop-b.of_others) crosses = kept_more c.write_namings.ensures.kept c.share_places.ensures.kept in
+    let own : ℕ → Option ℕ = λ a. cross_place rows a b in
+    let first : HaveFirst own (row others b) noted (get_or (held_in f c.write_namings.new.of_others) b []) =
+    c.write_namings.ensures.first rows others named sides notes (before.back_long b) (λ k. before.back_none b k (omega arith)) in
+    let whole : HaveAll own (row others b) (get_or crosses b []) =
+    subst (λ list. HaveAll own list (get_or crosses b [])) c.lent_at-list.ensures
+    (c.share_places.ensures.all own (subst (λ list. HaveFirst own list noted (get_or (held_in f c.write_namings.new.of_others) b [])) (sym c.lent_at-list.ensures) first)) in
+    let here : AreCrossPlacesOf others rows b (get_or crosses b []) = own_places rows others whole in
     record {
-      listed_rounds = let round = c.note_list.ensures.round in let t = before.listed_rounds in omega arith;
-      named_rounds = let round = c.write_namings.ensures.round in let t = before.named_rounds in omega arith;
+      listed_rounds = let round = c.note_list-repeats.ensures.round in let t = before.listed_rounds in omega arith;
       listed_long = listed_same ∙ listed_long;
-      named_long = named_same ∙ named_long;
-      before = c.write_namings.ensures.written rows others b named notes before.before;
-      back_each = ap (λ lists. length lists) put ∙ length-set old b places ∙ before.back_each;
-      back_long = λ d. ap (λ lists. length (get_or lists d [])) put ∙ put_long old b places others inside as_long before.back_long d;
-      back_of = λ d l. subst (λ lists. AreCrossPlacesOf others rows d (get_or (held_in f lists) d [])) (sym put) (put_places f old b places others rows inside own before.back_of d l);
+      before = c.write_namings.ensures.written rows others named notes before.before;
+      back_each = kept.one_each ∙ before.back_each;
+      back_long = λ d. kept.as_long d ∙ before.back_long d;
+      back_of = λ d l. ⊎_elim
+          (λ (same : d ≡ b). subst (λ e. AreCrossPlacesOf others rows e (get_or crosses e [])) (sym same) here)
+          (λ other. subst (AreCrossPlacesOf others rows d) (sym (kept.others d other)) (before.back_of d (omega arith)))
+          (cases_eq d b);
+      back_none = λ d k l. ap (λ (list : List (Option ℕ)). get_or list k None) (kept.others d (λ same. omega arith)) ∙ before.back_none d k (omega arith);
     }
 
 pub returns-clause-rows : goal.returns-clause-rows
@@ -120,6 +159,4 @@ returns-clause-rows g c =
 pub returns-clause-others : goal.returns-clause-others
 returns-clause-others g c =
     let many = length-map c.args.others.now (λ list. list.now) in
-    let long = length-map c.loop-b.of_others (map g.C.KeptPlace.kept) in
-    let same = c.loop-b.invariant.back_each in
-    record { one_each = omega arith; of = λ d l. c.loop-b.invariant.back_of d (omega arith) }
+    record { one_each = c.loop-b.invariant.back_each; of = λ d l. c.loop-b.invariant.back_of d (omega arith) }

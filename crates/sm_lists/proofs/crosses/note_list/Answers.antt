@@ -1,6 +1,7 @@
-use Rattle.std.proofs.Common.{◌≡◌, ℕ, List, Option, length, get_or, ap, subst, ◌∙◌, refl, arith}
+use Rattle.std.proofs.Common.{◌≡◌, ℕ, List, Option, length, get_or, ap, subst, sym, ◌∙◌, refl, arith}
+use Rattle.std.proofs.lemmas.Bool.{or_parts}
 use Rattle.sm_lists.specs.Kept.{noted_of}
-use Rattle.sm_lists.proofs.FirstLemmas.{first_more, first_on_list, length-first_noted, AreFirst}
+use Rattle.sm_lists.proofs.FirstLemmas.{first_more, first_on_list, length-first_noted, once_more, AreFirst}
 use Rattle.sm_lists.proofs.crosses.note_list.Goals as goal
 
 pub loop-place-preserved : goal.loop-place-preserved
@@ -9,10 +10,15 @@ loop-place-preserved c =
     let k = c.loop-place.place in
     let places : List (Option ℕ) = c.loop-place.notes.places in
     let before = c.loop-place.invariant in
+    let o : Option ℕ = noted_of places (get_or list k 0) in
     record {
-      rounds = c.note.ensures.rounds ∙ before.rounds;
-      one_each = ap (λ (xs : List (Option ℕ)). length xs) c.note.ensures.places ∙ length-first_noted (noted_of places (get_or list k 0)) places (get_or list k 0) k ∙ before.one_each;
-      first = rw c.note.ensures.places (first_more (λ j. get_or list j 0) (λ j. j) k places (noted_of places (get_or list k 0)) refl before.first);
+      rounds = c.note-repeats.ensures.rounds ∙ before.rounds;
+      one_each = ap (λ (xs : List (Option ℕ)). length xs) c.note-repeats.ensures.places ∙ length-first_noted o places (get_or list k 0) k ∙ before.one_each;
+      first = rw c.note-repeats.ensures.places (first_more (λ j. get_or list j 0) (λ j. j) k places o refl before.first);
+      once = λ free.
+          let parts = or_parts c.loop-place.repeats c.note-repeats.result free in
+          let same = length-first_noted o places (get_or list k 0) k in
+          rw c.note-repeats.ensures.places (λ j l inside. once_more list k places o refl (sym c.note-repeats.ensures.again ∙ parts.1) (before.once parts.0) j l (omega arith));
     }
 
 pub returns-clause-found : goal.returns-clause-found
