@@ -59,7 +59,7 @@ pub fn write<K: Sink, L: Lines + Drop>(
         if !lines.put_next(alloc, &mut writer)? {
             return Ok(());
         }
-        writer.put_bytes(b"\n")?;
+        writer.put_byte(b'\n')?;
         match sink.put(writer.bytes()) {
             Put::Done => {}
             Put::Failed => return Err(Unwritten::SinkFailed),

@@ -1,12 +1,10 @@
 -- Which lines may stand behind some lines of two given matchings.
-use Rattle.std.proofs.Common.{◌≡◌, ◌≢◌, ℕ, suc, ◌+◌, ◌-◌, ◌<◌, ◌≤◌, ◌++◌, ◌∷◌, [], List, length, map, take, drop, get_or, true, false, Bool, All, refl, sym, ap, ◌∙◌, subst, arith, inl, inr}
-use Rattle.std.proofs.lemmas.List.{append_assoc, append-nil, map-append, length-map, length-append, get_or-map, drop_all, take_all}
+use Rattle.std.proofs.Common.{◌≡◌, ◌≢◌, ℕ, suc, ◌+◌, ◌-◌, ◌<◌, ◌++◌, ◌∷◌, [], List, length, map, take, get_or, true, false, Bool, All, refl, sym, ap, ◌∙◌, subst, arith, inl, inr}
+use Rattle.std.proofs.lemmas.List.{append_assoc, append-nil, map-append, length-map, length-append, get_or-map, take_all}
 use Rattle.std.proofs.lemmas.List.Elements.{All-append, All-map, All-head, All-tail, All-take, All-drop}
 use Rattle.std.proofs.Math.Seq.{take-append_seam, drop-append_seam}
 use Rattle.sm_answer.proofs.AnswerLemmas.{one_all}
-use Rattle.sm_text.specs.Lines.{lines, content, first_line, IsLineAt}
-use Rattle.sm_text.specs.declared.lines.LineSpan.{LineSpan}
-use Rattle.sm_text.proofs.LineLemmas.{line_text}
+use Rattle.sm_text.specs.Lines.{lines}
 use Rattle.sm_instance.specs.Inputs.{IsInput}
 use Rattle.sm_instance.specs.declared.inputs.Input.{Input}
 use Rattle.sm_report.specs.Lines.{LineData}
@@ -14,7 +12,7 @@ use Rattle.sm_report.specs.Sound.{IsLineOf, ArePair}
 use Rattle.sm_report.specs.Reading.{HasText}
 use Rattle.sm_report.specs.Texts.{text_of_line}
 use Rattle.sm_report.proofs.ReadLemmas.{one_line}
-use Rattle.sm_answer_given.specs.GivenText.{texts_from, left_pair, right_pair, given_lines, ArePairs, AreGiven, AreBegun, IsBadLine}
+use Rattle.sm_answer_given.specs.GivenText.{left_pair, right_pair, given_lines, ArePairs, AreGiven, AreBegun, IsBadLine}
 use Rattle.sm_answer_given.specs.Taking.{end_so_far, lines_so_far, FitsGroup, AreInTurn, HasPlace, Took, TookText, TakesLine, TakesText}
 use Rattle.sm_answer_given.specs.declared.pairs.Group.{Group}
 use Rattle.sm_answer_given.specs.declared.pairs.Group.TheVariants.{Left, Right, Ended}
@@ -126,18 +124,6 @@ taken_more input texts before after text rest t k =
           ∙ ap (λ xs. xs ++ rest) (sym (map-append (text_of_line input) (lines_so_far before) (k.line ∷ [])))
           ∙ ap (λ lines. map (text_of_line input) lines ++ rest) (sym more);
     }
-
--- one line more of a text
-pub texts_from-step : (bytes : List ℕ) (at : ℕ) (span : LineSpan) → IsLineAt bytes at span → texts_from bytes at ≡ take (span.stop - span.start) (drop span.start bytes) ∷ texts_from bytes span.next
-texts_from-step bytes at span h = ap (map content) h.leads ∙ ap (λ t. t ∷ texts_from bytes span.next) (sym (line_text bytes at span h))
-
--- and behind it there is one line less
-pub fewer_lines : (bytes : List ℕ) (at : ℕ) (span : LineSpan) → IsLineAt bytes at span → length (lines (drop at bytes)) ≡ length (lines (drop span.next bytes)) + 1
-fewer_lines bytes at span h = let e : length (lines (drop at bytes)) ≡ length (first_line (drop at bytes) ∷ lines (drop span.next bytes)) = ap length h.leads in omega (arith, e)
-
--- past the end there are none
-pub texts_from-over : (bytes : List ℕ) (at : ℕ) → length bytes ≤ at → texts_from bytes at ≡ []
-texts_from-over bytes at le = ap (λ rest. map content (lines rest)) (drop_all at bytes le)
 
 -- lines with equal texts are equal
 parse : (input : Input) → IsInput input → (a b : List LineData) (rest : List (List ℕ)) → All (IsLineOf input) a → All (IsLineOf input) b

@@ -1,15 +1,10 @@
 -- The text of two given matchings.
-use Rattle.std.specs.Prelude.{◌≡◌, ℕ, ◌+◌, List, [], ◌∷◌, ◌++◌, map, drop, All}
-use Rattle.sm_text.specs.Lines.{lines, content}
+use Rattle.std.specs.Prelude.{◌≡◌, ℕ, ◌+◌, List, [], ◌∷◌, ◌++◌, map, All}
 use Rattle.sm_instance.specs.declared.inputs.Input.{Input}
 use Rattle.sm_report.specs.Lines.{LineData}
 use Rattle.sm_report.specs.FirstBad.{IsFirstBad}
 use Rattle.sm_report.specs.Sound.{ArePair}
 use Rattle.sm_report.specs.Texts.{text_of_line}
-
--- what stands on the lines from a place on, without their ends
-abbrev pub texts_from : List ℕ → ℕ → List (List ℕ)
-texts_from bytes from = map content (lines (drop from bytes))
 
 -- `left` lines, then `right` lines, then `end`
 abbrev pub left_pair : ℕ × ℕ → LineData

@@ -1,11 +1,10 @@
 //! Two stable matchings, given behind `end`.
 
 ghost use Rattle.std.specs.Prelude.{◌≡◌, ◌+◌, ◌<◌, ◌^◌, length, drop, IfOk, IfErr, OnOk};
-ghost use Rattle.sm_text.specs.Lines.{lines};
+ghost use Rattle.sm_text.specs.Lines.{lines, texts_from};
 ghost use Rattle.sm_instance.specs.Stable.{IsStable};
 ghost use Rattle.sm_instance.specs.declared.inputs.Input.TheVariants.{Two};
 ghost use Rattle.sm_pairs.specs.Holding.{IsHolding};
-ghost use Rattle.sm_answer_given.specs.GivenText.{texts_from};
 ghost use Rattle.sm_answer_given.specs.Given.{AreStableGiven};
 ghost use Rattle.sm_answer_given.specs.Refusing.{IsGivenFault, IsBlocking};
 

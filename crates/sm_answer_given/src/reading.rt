@@ -1,9 +1,9 @@
 //! The lines of two given matchings, read to the end of a text.
 
 ghost use Rattle.std.specs.Prelude.{◌+◌, ◌<◌, ◌^◌, length, drop, IfOk, IfErr};
-ghost use Rattle.sm_text.specs.Lines.{lines};
+ghost use Rattle.sm_text.specs.Lines.{lines, texts_from};
 ghost use Rattle.sm_instance.specs.Inputs.{IsInput};
-ghost use Rattle.sm_answer_given.specs.GivenText.{texts_from, AreGiven};
+ghost use Rattle.sm_answer_given.specs.GivenText.{AreGiven};
 ghost use Rattle.sm_answer_given.specs.Taking.{AreInTurn, TakesText, IsGivenReadFault};
 
 use crate::faults::GivenFault;

@@ -19,7 +19,7 @@ use Rattle.sm_instance.specs.Stable.{IsStable}
 use Rattle.sm_seats.specs.Seating.{Seating, written_of, levels_of}
 use Rattle.sm_seats.specs.Correspondence.{IsSeating}
 use Rattle.sm_seats.proofs.SeatingLaws.{stands_at}
-use Rattle.sm_seats.proofs.PieceLemmas.{range_more}
+use Rattle.sm_lists.proofs.RangeLemmas.{range_more}
 use Rattle.sm_market.specs.Lists.{Lists}
 use Rattle.sm_answer_pairs.specs.declared.pairs.StablePair.{StablePair}
 use Rattle.sm_theory.specs.StablePlaces.{AreStableLevels}

@@ -5,6 +5,7 @@ use Rattle.std.proofs.lemmas.Bool.{cases_lt, eqb-true, false≢true}
 use Rattle.std.proofs.lemmas.List.{get_or-map, get_or_past, length-map}
 use Rattle.std.proofs.lemmas.List.FromFn.{get_or-map-range_with_len, length-map-range_with_len}
 use Rattle.std.proofs.lemmas.List.Sums.{passes_at_first}
+use Rattle.sm_lists.proofs.RangeLemmas.{greatest_more}
 use Rattle.sm_instance.specs.Written.{Written, place_of}
 use Rattle.sm_instance.specs.Stable.{IsStable}
 use Rattle.sm_instance.proofs.AcceptLemmas.{true_lt}
@@ -12,15 +13,16 @@ use Rattle.sm_instance.proofs.LoadLemmas.{test_cases}
 use Rattle.sm_market.specs.Lists.{row, entry, place_of as market_place}
 use Rattle.sm_market.specs.Matching.{Places, held as market_held}
 use Rattle.sm_market.proofs.CycleLemmas.{turn_in}
-use Rattle.sm_theory.specs.Rotations.{proposer_at, reviewer_at, next_in, target_at, pair_of}
+use Rattle.sm_theory.specs.Rotations.{proposer_at, reviewer_at, next_in, target_at, pair_of, is_moved, reviewer_after}
 use Rattle.sm_theory.specs.Chains.{rotation_at, IsCompleteChain, AreNeedsOf}
 use Rattle.sm_theory.specs.ClosedSets.{is_member, IsMember, IsClosed, worst_place, matching_of, Correspondence}
 use Rattle.sm_theory.proofs.Bridge.Places.{held_map}
+use Rattle.sm_theory.proofs.Bridge.Sets.{worst_more}
 use Rattle.sm_theory.proofs.Chains.Rotations.{sets_are_matchings}
 use Rattle.sm_seats.specs.Seating.{Seating, reviewer_of, written_place, written_of}
 use Rattle.sm_seats.specs.Correspondence.{IsSeating}
 use Rattle.sm_seats.proofs.SeatingLaws.{rises}
-use Rattle.sm_answer_rotations.specs.RotationLines.{ShownRotations, first_at, first_seat, seated_rotation, rotation_number, numbers_of, shown_of}
+use Rattle.sm_answer_rotations.specs.RotationLines.{ShownRotations, first_at, pairs_at, first_seat, seated_rotation, rotation_number, numbers_of, shown_of}
 use Rattle.sm_answer_rotations.specs.Reduction.{seat_of}
 use Rattle.sm_answer_rotations.specs.RotationAnswer.{HasNumberedRotation, IsClosedIn, pairs_of, least_liked, matching_shown, IsCorrespondence}
 use Rattle.sm_answer_rotations.proofs.SeatingLemmas.{place_of-list, place_of-reviewer_of}
@@ -195,9 +197,19 @@ module _ {w : Written} {s : Seating} (h : IsSeating w s) {first : Places} {rotat
   brought set p i (suc n) g on =
       let deep = brought set p i n (omega arith) on in
       let step = one_more h deep (rotation_at rotations n) (is_member set n) (moved_on_list p n (omega arith)) in
-      let before = least_liked w (shown_of s first rotations needs) set p (written_place s p i) n in
-      subst (λ (x : List (ℕ × ℕ)). IsSamePlace s p (worst_place s.market rotations set p i (suc n))
-      (cond (is_member set n && nat_lt (pair_of x p) (length x)) (max before (place_of w.proposers p (target_at x (pair_of x p)))) before)) (sym (rotation_shown s rotations n)) step
+      let mine = subst (λ (a : ℕ). IsSamePlace s p a (moved_by (map (reviewer_pair s) (rotation_at rotations n)))) (sym (worst_more s.market rotations set p i n)) step in
+      let theirs = subst (λ (x : List (ℕ × ℕ)). IsSamePlace s p (worst_place s.market rotations set p i (suc n)) (moved_by x)) (sym (rotation_shown s rotations n)) mine in
+      subst (λ (b : ℕ). IsSamePlace s p (worst_place s.market rotations set p i (suc n)) b)
+      (sym (greatest_more (λ k. is_member set k && is_moved (shown_rotation k) p) (λ k. place_of w.proposers p (reviewer_after (shown_rotation k) p)) (written_place s p i) n)) theirs
+    where
+      shown_rotation : ℕ → List (ℕ × ℕ)
+      shown_rotation k = pairs_of (pairs_at (shown_of s first rotations needs) k)
+
+      before : ℕ
+      before = least_liked w (shown_of s first rotations needs) set p (written_place s p i) n
+
+      moved_by : List (ℕ × ℕ) → ℕ
+      moved_by x = cond (is_member set n && is_moved x p) (max before (place_of w.proposers p (reviewer_after x p))) before
 
   -- the matching that is shown of a set is that of the set among the seats
   pub matching_is : (set : List Bool) → matching_shown w (shown_of s first rotations needs) set ≡ written_of s (matching_of s.market first rotations set).proposers

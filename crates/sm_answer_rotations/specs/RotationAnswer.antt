@@ -1,5 +1,5 @@
 -- The answer of `rotations`: which rotations are shown, and how the stable matchings of the instance are read off.
-use Rattle.std.specs.Prelude.{◌≡◌, ℕ, zero, suc, nat_lt, if◌then◌else◌, Bool, ◌&&◌, List, map, max, length, Option, Contains}
+use Rattle.std.specs.Prelude.{◌≡◌, ℕ, zero, suc, Bool, ◌&&◌, List, map, filter, fold, max, length, Option, Contains}
 use Rattle.std.specs.List.{range_with_len}
 use Rattle.std.specs.Option.{option_map}
 use Rattle.sm_instance.specs.Written.{Written, place_of}
@@ -7,7 +7,7 @@ use Rattle.sm_instance.specs.Stable.{IsStable}
 use Rattle.sm_market.specs.Matching.{Places}
 use Rattle.sm_report.specs.declared.lines.Seat.{Seat}
 use Rattle.sm_report.specs.Lines.{LineData}
-use Rattle.sm_theory.specs.Rotations.{target_at, pair_of}
+use Rattle.sm_theory.specs.Rotations.{is_moved, reviewer_after}
 use Rattle.sm_theory.specs.Chains.{IsPrintedChain, AreNeeds}
 use Rattle.sm_theory.specs.ClosedSets.{is_member, IsMember}
 use Rattle.sm_seats.specs.SeatMarket.{seat_market}
@@ -31,12 +31,9 @@ pairs_of rotation = map (λ pair. (pair.0, pair.1.reviewer)) rotation
 
 -- the last on p's written list of the place i and the places to which members of the set among the first n rotations move p
 abbrev pub least_liked : Written → ShownRotations → List Bool → (p i n : ℕ) → ℕ
-least_liked w shown set p i zero = i
-least_liked w shown set p i (suc n) =
-    let rotation = pairs_of (pairs_at shown n) in
-    let pair = pair_of rotation p in
-    let before = least_liked w shown set p i n in
-    if is_member set n && nat_lt pair (length rotation) then max before (place_of w.proposers p (target_at rotation pair)) else before
+least_liked w shown set p i n =
+    fold max i (map (λ k. place_of w.proposers p (reviewer_after (pairs_of (pairs_at shown k)) p))
+    (filter (λ k. is_member set k && is_moved (pairs_of (pairs_at shown k)) p) (range_with_len 0 n)))
 
 -- the matching of a set: a proposer without a first seat has nobody, and each other one, of its first seat and those to
 -- which members move it, the one that it likes least (Gusfield and Irving 1989, theorem 2.5.7)

@@ -62,7 +62,7 @@ survey_sound {w} input limit listed tallies o last two least greatest few each i
     let P = IsLineOf (Two w) in
     let lines = map tally_line tallies in
     subst (λ (i : Input). All (IsLineOf i) (survey_lines limit listed tallies last)) (sym two)
-    (All-cons P (LineData.Answer (HeadData.Survey limit)) (LineData.Listed listed ∷ (lines ++ last ∷ [])) (record { printable = tt; seats = λ k d l. absurd (omega arith); numbers = tt; head = record { least = least; greatest = greatest } })
+    (All-cons P (LineData.Answer (HeadData.Survey limit)) (LineData.Listed listed ∷ (lines ++ last ∷ [])) (record { printable = tt; seats = λ k d l. absurd (omega arith); numbers = tt; head = (least, greatest) })
     (All-cons P (LineData.Listed listed) (lines ++ last ∷ []) (record { printable = tt; seats = λ k d l. absurd (omega arith); numbers = omega arith; head = tt })
     (All-append P lines (last ∷ []) (tallies_sound (Two w) tallies each)
     (All-cons P last [] (subst P (sym is) (last_sound (Two w) o (subst AreNumbers is numbers))) (λ k d l. absurd (omega arith))))))

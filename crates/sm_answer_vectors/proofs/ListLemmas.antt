@@ -46,7 +46,7 @@ end_small after limit (v ∷ vs) more least all full e = end_listed (All IsSmall
 
 head_sound : (input : Input) (after : Option (List ℕ)) (limit : ℕ) → IfSome after (All IsSmall) → 1 ≤ limit → limit ≤ most_limit → IsLineOf input (LineData.Answer (HeadData.List after limit))
 head_sound input after limit small least greatest =
-    record { printable = tt; seats = λ k d l. absurd (omega arith); numbers = tt; head = (small, record { least = least; greatest = greatest }) }
+    record { printable = tt; seats = λ k d l. absurd (omega arith); numbers = tt; head = (small, (least, greatest)) }
 
 module _ {order : List ℕ} {IsOne : List ℕ → Type 0} where
   -- a right answer is of lines of the input

@@ -1,5 +1,5 @@
 -- The answer of `weight`.
-use Rattle.std.specs.Prelude.{◌≡◌, ℕ, zero, suc, ◌+◌, ◌==◌, if◌then◌else◌, Bool, true, false, List, [], ◌∷◌, ◌++◌, length, map, Option, ℤ}
+use Rattle.std.specs.Prelude.{◌≡◌, ℕ, suc, ◌+◌, ◌==◌, if◌then◌else◌, Bool, true, false, List, [], ◌∷◌, ◌++◌, length, map, filter, Option, ℤ}
 use Rattle.std.specs.List.{All, flat_map, range_with_len}
 use Rattle.sm_answer.specs.Lines.{lines_from}
 use Rattle.sm_instance.specs.Written.{Written}
@@ -109,8 +109,7 @@ second_flow_line sink line = LineData.SecondFlow (shown_node sink line.from) (sh
 
 -- the numbers of the members of a set among the first n rotations, from 1
 abbrev pub member_numbers : List Bool → ℕ → List ℕ
-member_numbers set zero = []
-member_numbers set (suc n) = member_numbers set n ++ (if is_member set n then suc n ∷ [] else [])
+member_numbers set n = map suc (filter (is_member set) (range_with_len 0 n))
 
 -- the value of the second flow, the second cut of the set, and the second sum of its matching
 abbrev pub second_figures : Measure → Written → WeightParts → List LineData

@@ -13,7 +13,7 @@ use Rattle.sm_instance.proofs.CrossLemmas.{row-lists_of}
 use Rattle.sm_market.specs.Lists.{place_of as place_in_rows}
 use Rattle.sm_theory.specs.declared.choice.Choice.{Choice}
 use Rattle.sm_theory.specs.declared.choice.Choice.TheVariants.{Better, Worse}
-use Rattle.sm_pairs.specs.Held.{partner_in, places_in, IsFree}
+use Rattle.sm_pairs.specs.Held.{partner_in, places_in, CanFollow}
 use Rattle.sm_pairs.specs.Chosen.{chosen_places, head_for}
 use Rattle.sm_pairs.proofs.ChoiceLemmas.{chosen_assigned}
 use Rattle.sm_report.specs.Lines.{LineData}
@@ -159,9 +159,9 @@ chosen_yes choice w lines g =
       left_stable = left;
       right_stable = right;
       left_written = free_pairs w left_in lines
-          (λ k. each_line r reason.NotAMatching {Q = λ above line. IfSome (left_in line) (IsFree w (lefts_in above))} (λ above line h. (of_clauses choice w above line reason.NotAMatching h).0.0) k);
+          (λ k. each_line r reason.NotAMatching {Q = λ above line. IfSome (left_in line) (CanFollow w (lefts_in above))} (λ above line h. (of_clauses choice w above line reason.NotAMatching h).0.0) k);
       right_written = free_pairs w right_in lines
-          (λ k. each_line r reason.NotAMatching {Q = λ above line. IfSome (right_in line) (IsFree w (rights_in above))} (λ above line h. (of_clauses choice w above line reason.NotAMatching h).0.1) k);
+          (λ k. each_line r reason.NotAMatching {Q = λ above line. IfSome (right_in line) (CanFollow w (rights_in above))} (λ above line h. (of_clauses choice w above line reason.NotAMatching h).0.1) k);
       written = all_wanted w wanted on_lists (pairs_in lines)
           (grown pair_in (AreWanted w wanted on_lists) (IsWanted w wanted) lines (none_wanted w wanted on_lists) (one_wanted w wanted on_lists) (λ k. wanted_at choice w lines p k r)) all;
     }

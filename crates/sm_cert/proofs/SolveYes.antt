@@ -13,7 +13,7 @@ use Rattle.sm_instance.specs.Stable.{IsStable, IsBestOf}
 use Rattle.sm_instance.specs.Allowed.{IsAllowed}
 use Rattle.sm_instance.specs.Ranks.{regret_of}
 use Rattle.sm_instance.proofs.CrossLemmas.{row-lists_of}
-use Rattle.sm_pairs.specs.Held.{partner_in, paired_place, places_in, IsFree}
+use Rattle.sm_pairs.specs.Held.{partner_in, paired_place, places_in, CanFollow}
 use Rattle.sm_pairs.proofs.HoldingLemmas.{held_place}
 use Rattle.sm_report.specs.Heads.{HeadData}
 use Rattle.sm_report.specs.Lines.{LineData}
@@ -31,7 +31,7 @@ use Rattle.sm_cert.proofs.GroupLemmas.{Tells, goes, all_down, none_said}
 use Rattle.sm_cert.proofs.YesLines.{right_two, by_head, at_closing, said_above, grown}
 use Rattle.sm_cert.proofs.YesPairs.{same_places, AreGiven, none_given, one_given, pairs_of}
 
-one_free : (w : Written) (pairs : List (ℕ × ℕ)) (x : ℕ × ℕ) → AreGiven (lists_of w.proposers) pairs → IsFree w pairs x → AreGiven (lists_of w.proposers) (pairs ++ x ∷ [])
+one_free : (w : Written) (pairs : List (ℕ × ℕ)) (x : ℕ × ℕ) → AreGiven (lists_of w.proposers) pairs → CanFollow w pairs x → AreGiven (lists_of w.proposers) (pairs ++ x ∷ [])
 one_free w pairs x k f =
     let place = same_places w x.0 x.1 in
     let long = ap (λ (list : List ℕ). length list) (row-lists_of w.proposers x.0) in
@@ -40,13 +40,13 @@ one_free w pairs x k f =
 
 -- the pairs of lines at each of which they are free
 pub free_pairs : (w : Written) (said : LineData → Option (ℕ × ℕ)) (lines : List LineData)
-    → ((k : ℕ) → IfSome (slice_get lines k) (λ line. IfSome (said line) (IsFree w (filter_map said (take k lines)))))
+    → ((k : ℕ) → IfSome (slice_get lines k) (λ line. IfSome (said line) (CanFollow w (filter_map said (take k lines)))))
     → ArePairsOf (lists_of w.proposers) (places_in w (filter_map said lines)) (filter_map said lines)
 free_pairs w said lines at =
     let pairs = filter_map said lines in
     let all = length-map w.proposers (λ agent. agent.entries) in
     let long = length-map-range_with_len (paired_place w pairs) 0 (length w.proposers) in
-    pairs_of (lists_of w.proposers) (places_in w pairs) pairs (grown said (AreGiven (lists_of w.proposers)) (IsFree w) lines (none_given (lists_of w.proposers)) (one_free w) at) (omega arith)
+    pairs_of (lists_of w.proposers) (places_in w pairs) pairs (grown said (AreGiven (lists_of w.proposers)) (CanFollow w) lines (none_given (lists_of w.proposers)) (one_free w) at) (omega arith)
     (λ p l. held_place w pairs p (omega arith) ∙ ap (λ list. option_map (place_on list) (partner_in pairs p)) (sym (row-lists_of w.proposers p)))
 
 -- the law of a yes on `solve` over two sides

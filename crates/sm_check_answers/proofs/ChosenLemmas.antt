@@ -10,7 +10,7 @@ use Rattle.sm_theory.specs.declared.choice.Choice.{Choice}
 use Rattle.sm_theory.specs.declared.choice.Choice.TheVariants.{Better, Worse}
 use Rattle.sm_pairs.specs.declared.holding.Holding.{Holding}
 use Rattle.sm_pairs.specs.Chosen.{chosen_places, head_for}
-use Rattle.sm_pairs.specs.Held.{places_in, IsFree}
+use Rattle.sm_pairs.specs.Held.{places_in, CanFollow}
 use Rattle.sm_pairs.proofs.HoldingLemmas.{places_later}
 use Rattle.sm_pairs.proofs.ChoiceLemmas.{chosen_assigned, left_changed, right_changed}
 use Rattle.sm_report.specs.Lines.{LineData, line_of}
@@ -44,14 +44,14 @@ of_clauses Worse w above line why h = h
 
 module _ (choice : Choice) (w : Written) (lefts rights pairs : List (ℕ × ℕ)) where
   -- all hold at a left pair that may stand behind the left ones
-  pub left_holds : (p r : ℕ) → IsFree w lefts (p, r) → (why : Reason) → ChosenHold choice w lefts rights pairs (LineData.LeftPair p r) why
+  pub left_holds : (p r : ℕ) → CanFollow w lefts (p, r) → (why : Reason) → ChosenHold choice w lefts rights pairs (LineData.LeftPair p r) why
   left_holds p r free reason.NotAMatching = ((free, tt), tt)
   left_holds p r free reason.Blocked = ((λ e. absurd (false≢true e)), tt)
   left_holds p r free reason.WrongPair = (tt, (tt, λ e. absurd (false≢true e)))
   left_holds p r free _ = (tt, tt)
 
   -- all hold at a right pair that may stand behind the right ones
-  pub right_holds : (p r : ℕ) → IsFree w rights (p, r) → (why : Reason) → ChosenHold choice w lefts rights pairs (LineData.RightPair p r) why
+  pub right_holds : (p r : ℕ) → CanFollow w rights (p, r) → (why : Reason) → ChosenHold choice w lefts rights pairs (LineData.RightPair p r) why
   right_holds p r free reason.NotAMatching = ((tt, free), tt)
   right_holds p r free reason.Blocked = ((λ e. absurd (false≢true e)), tt)
   right_holds p r free reason.WrongPair = (tt, (tt, λ e. absurd (false≢true e)))

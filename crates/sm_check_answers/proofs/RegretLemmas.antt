@@ -13,7 +13,7 @@ use Rattle.sm_check_clauses.specs.declared.verdicts.Reason.{Reason}
 use Rattle.sm_check_clauses.specs.declared.verdicts.Reason.TheVariants as reason
 use Rattle.sm_check_clauses.specs.Verdicts.{Finds}
 use Rattle.sm_check_clauses.specs.Said.{pair_in, pairs_in, regret_in, first_said}
-use Rattle.sm_pairs.specs.Held.{places_in, IsFree}
+use Rattle.sm_pairs.specs.Held.{places_in, CanFollow}
 use Rattle.sm_check_clauses.specs.Vectors.{RegretHolds, RegretClauses}
 use Rattle.sm_check_answers.specs.Regrets.{EndOfRegret, AreRegretsKept}
 use Rattle.sm_check_clauses.specs.Walking.{FindsOrKeeps}
@@ -22,7 +22,7 @@ use Rattle.sm_check_clauses.proofs.AnswerLemmas.{found_by, first_more}
 
 module _ (w : Written) (regret : ℕ) (pairs : List (ℕ × ℕ)) where
   -- at a line with a pair
-  pub pair_holds : (p r : ℕ) → IsFree w pairs (p, r) → (why : Reason) → RegretHolds w regret pairs (LineData.Pair p r) why
+  pub pair_holds : (p r : ℕ) → CanFollow w pairs (p, r) → (why : Reason) → RegretHolds w regret pairs (LineData.Pair p r) why
   pair_holds p r free reason.NotAMatching = free
   pair_holds p r free reason.Blocked = λ e. absurd (false≢true e)
   pair_holds p r free reason.NotAllowed = λ e. absurd (false≢true e)

@@ -21,14 +21,14 @@ use Rattle.sm_check_clauses.specs.declared.verdicts.Reason.{Reason}
 use Rattle.sm_check_clauses.specs.declared.verdicts.Reason.TheVariants as reason
 use Rattle.sm_check_clauses.specs.Said.{pair_in, pairs_in}
 use Rattle.sm_check_clauses.specs.Walking.{FindsOrKeeps}
-use Rattle.sm_pairs.specs.Held.{IsFree}
+use Rattle.sm_pairs.specs.Held.{CanFollow}
 use Rattle.sm_check_clauses.specs.Pairs.{SolveHolds}
 use Rattle.sm_pairs.specs.PairsKept.{ArePairsHeld}
 use Rattle.sm_check_answers.specs.Solving.{IsSolveKept}
 
 module _ (w : Written) (side : Side) (pairs : List (ℕ × ℕ)) where
   -- at a line with a pair
-  pub pair_holds : (p r : ℕ) → IsFree w pairs (p, r) → (why : Reason) → SolveHolds w side pairs (LineData.Pair p r) why
+  pub pair_holds : (p r : ℕ) → CanFollow w pairs (p, r) → (why : Reason) → SolveHolds w side pairs (LineData.Pair p r) why
   pair_holds p r free reason.NotAMatching = free
   pair_holds p r free reason.Blocked = λ e. absurd (false≢true e)
   pair_holds p r free reason.NotBest = λ e. absurd (false≢true e)

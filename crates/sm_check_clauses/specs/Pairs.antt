@@ -6,7 +6,7 @@ use Rattle.sm_instance.specs.Stable.{IsStable, IsBestOf}
 use Rattle.sm_instance.specs.declared.kinds.Side.{Side}
 use Rattle.sm_theory.specs.declared.choice.Choice.{Choice}
 use Rattle.sm_report.specs.Lines.{LineData}
-use Rattle.sm_pairs.specs.Held.{partner_in, places_in, IsFree}
+use Rattle.sm_pairs.specs.Held.{partner_in, places_in, CanFollow}
 use Rattle.sm_pairs.specs.Chosen.{chosen_places}
 use Rattle.sm_check_clauses.specs.declared.verdicts.Reason.{Reason}
 use Rattle.sm_check_clauses.specs.declared.verdicts.Reason.TheVariants as reason
@@ -14,7 +14,7 @@ use Rattle.sm_check_clauses.specs.Said.{pair_in, left_in, right_in, IsEnd}
 
 -- `solve`: at a line behind these pairs
 abbrev pub SolveHolds : Written → Side → List (ℕ × ℕ) → LineData → Reason → Type 0
-SolveHolds w side pairs line reason.NotAMatching = IfSome (pair_in line) (IsFree w pairs)
+SolveHolds w side pairs line reason.NotAMatching = IfSome (pair_in line) (CanFollow w pairs)
 SolveHolds w side pairs line reason.Blocked = IsEnd line → IsStable w (places_in w pairs)
 SolveHolds w side pairs line reason.NotBest = IsEnd line → IsBestOf side w (places_in w pairs)
 SolveHolds w side pairs line _ = Unit {0}
@@ -22,7 +22,7 @@ SolveHolds w side pairs line _ = Unit {0}
 -- the two matchings of `meet` and `join`, at a line behind these pairs of each
 abbrev pub GivenHold : Written → (lefts rights : List (ℕ × ℕ)) → LineData → Reason → Type 0
 GivenHold w lefts rights line reason.NotAMatching =
-    IfSome (left_in line) (IsFree w lefts) × IfSome (right_in line) (IsFree w rights)
+    IfSome (left_in line) (CanFollow w lefts) × IfSome (right_in line) (CanFollow w rights)
 GivenHold w lefts rights line reason.Blocked = IsEnd line → IsStable w (places_in w lefts) × IsStable w (places_in w rights)
 GivenHold w lefts rights line _ = Unit {0}
 

@@ -11,7 +11,7 @@ use Rattle.sm_report.specs.Lines.{LineData}
 use Rattle.sm_check_clauses.specs.declared.verdicts.Reason.{Reason}
 use Rattle.sm_check_clauses.specs.declared.verdicts.Reason.TheVariants as reason
 use Rattle.sm_check_clauses.specs.Said.{pair_in, pairs_in, vectors_in, regret_in, first_said, IsEnd}
-use Rattle.sm_pairs.specs.Held.{places_in, IsFree}
+use Rattle.sm_pairs.specs.Held.{places_in, CanFollow}
 
 -- the places of ranks; none for the rank of being unmatched
 abbrev pub place_of_rank : Written → List ℕ → ℕ → Option ℕ
@@ -53,7 +53,7 @@ ListClauses w after limit above line why =
 
 -- `regret`: at a line behind these pairs, of whose matching the regret is said to be this one
 abbrev pub RegretHolds : Written → (regret : ℕ) → List (ℕ × ℕ) → LineData → Reason → Type 0
-RegretHolds w regret pairs line reason.NotAMatching = IfSome (pair_in line) (IsFree w pairs)
+RegretHolds w regret pairs line reason.NotAMatching = IfSome (pair_in line) (CanFollow w pairs)
 RegretHolds w regret pairs line reason.Blocked = IsEnd line → IsStable w (places_in w pairs)
 RegretHolds w regret pairs line reason.NotAllowed = IsEnd line → IsAllowed w (places_in w pairs)
 RegretHolds w regret pairs line reason.WrongRegret = IsEnd line → regret ≡ regret_of w (places_in w pairs)

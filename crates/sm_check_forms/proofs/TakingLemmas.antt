@@ -1,14 +1,12 @@
 -- Which lines may stand behind some lines of an answer.
-use Rattle.std.proofs.Common.{◌≡◌, ◌≢◌, ℕ, suc, ◌+◌, ◌-◌, ◌≤◌, ◌∙◌, arith, refl, sym, ap, subst, inl, inr, true, false, Bool, All, List, [], ◌∷◌, ◌++◌, length, map, take, drop, if◌then◌else◌}
+use Rattle.std.proofs.Common.{◌≡◌, ◌≢◌, ℕ, suc, ◌+◌, ◌-◌, ◌≤◌, ◌∙◌, arith, refl, sym, ap, subst, inl, inr, true, false, Bool, All, List, [], ◌∷◌, ◌++◌, length, map, take, if◌then◌else◌}
 use Rattle.std.specs.Prelude.{◌&&◌, filter_map}
 use Rattle.std.specs.List.{list_all}
-use Rattle.std.proofs.lemmas.List.{append_assoc, append-nil, map-append, length-map, length-append, drop_all}
+use Rattle.std.proofs.lemmas.List.{append_assoc, append-nil, map-append, length-map, length-append}
 use Rattle.std.proofs.lemmas.List.Elements.{All-append, All-cons, All-head, All-tail}
 use Rattle.std.proofs.lemmas.Bool.{false≢true}
 use Rattle.std.proofs.Math.Seq.{take-append_seam}
-use Rattle.sm_text.specs.Lines.{lines, content, first_line, IsLineAt}
-use Rattle.sm_text.specs.declared.lines.LineSpan.{LineSpan}
-use Rattle.sm_text.proofs.LineLemmas.{line_text}
+use Rattle.sm_text.specs.Lines.{lines}
 use Rattle.sm_instance.specs.Inputs.{IsInput}
 use Rattle.sm_instance.specs.declared.inputs.Input.{Input}
 use Rattle.sm_report.specs.declared.lines.Line.{Line}
@@ -251,22 +249,3 @@ module _ (input : Input) (h : IsInput input) (texts : List (List ℕ)) (answer :
           none_left : (m : List LineData) → [] ≡ map (text_of_line input) m → m ≡ []
           none_left [] e = refl
           none_left (x ∷ m) e = absurd cc
-
--- one line more of a text
-abbrev pub texts_from : List ℕ → ℕ → List (List ℕ)
-texts_from bytes from = map content (lines (drop from bytes))
-
--- the text of the line at a place stands in front of those behind it
-pub texts_from-step : (bytes : List ℕ) (at : ℕ) (span : LineSpan) → IsLineAt bytes at span
-    → texts_from bytes at ≡ take (span.stop - span.start) (drop span.start bytes) ∷ texts_from bytes span.next
-texts_from-step bytes at span h = ap (map content) h.leads ∙ ap (λ t. t ∷ texts_from bytes span.next) (sym (line_text bytes at span h))
-
--- and behind it there is one line less
-pub fewer_lines : (bytes : List ℕ) (at : ℕ) (span : LineSpan) → IsLineAt bytes at span → length (lines (drop at bytes)) ≡ length (lines (drop span.next bytes)) + 1
-fewer_lines bytes at span h =
-    let e : length (lines (drop at bytes)) ≡ length (first_line (drop at bytes) ∷ lines (drop span.next bytes)) = ap length h.leads in
-    omega (arith, e)
-
--- past the end there are none
-pub texts_from-over : (bytes : List ℕ) (at : ℕ) → length bytes ≤ at → texts_from bytes at ≡ []
-texts_from-over bytes at le = ap (λ rest. map content (lines rest)) (drop_all at bytes le)

@@ -11,6 +11,7 @@ use Rattle.sm_theory.specs.Rotations.{proposer_at, target_at, pair_of}
 use Rattle.sm_theory.specs.Chains.{rotation_at}
 use Rattle.sm_theory.specs.ClosedSets.{is_member, worst_place, matching_of}
 use Rattle.sm_theory.proofs.Bridge.Places.{held_map}
+use Rattle.sm_theory.proofs.Bridge.Sets.{worst_more}
 use Rattle.sm_check_net.specs.declared.moves.Move.{Move}
 use Rattle.sm_check_net.specs.Moves.{move_at, row_of_moves, AreRotationMoves, AreMovesByRotation}
 use Rattle.sm_check_net.specs.SetPlaces.{lowered, lowered_by, worst_by, AreMade}
@@ -44,7 +45,9 @@ module _ {l : Lists} {rotation : List (ℕ × ℕ)} {moves : List Move} (m : Are
 worst_is : {l : Lists} {rotations : List (List (ℕ × ℕ))} {rows : List (List Move)} (members : List Bool) → AreMovesByRotation l rotations rows → (p i n : ℕ) → n ≤ length rotations
     → worst_by p rows members n i ≡ worst_place l rotations members p i n
 worst_is members m p i zero few = refl
-worst_is {l} {rotations} {rows} members m p i (suc n) few = go (is_member members n) (worst_is members m p i n (omega arith))
+worst_is {l} {rotations} {rows} members m p i (suc n) few =
+    go (is_member members n) (worst_is members m p i n (omega arith))
+    ∙ sym (worst_more l rotations members p i n)
   where
     before : ℕ
     before = worst_place l rotations members p i n

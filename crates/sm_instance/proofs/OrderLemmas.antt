@@ -2,8 +2,8 @@
 use Rattle.std.proofs.Common.{◌≡◌, ◌≢◌, ℕ, ◌+◌, ◌<◌, ◌≤◌, ◌++◌, ◌∷◌, [], List, length, get_or, sym, ap, ◌∙◌, arith, ⊎_elim}
 use Rattle.std.specs.List.{range_with_len}
 use Rattle.std.proofs.lemmas.Bool.{cases_lt}
-use Rattle.std.proofs.lemmas.List.{length-append, get_or_append_left, get_or-append-add, map-id}
-use Rattle.std.proofs.lemmas.List.FromFn.{length-range_with_len, get_or-range_with_len, map-range_with_len_more}
+use Rattle.std.proofs.lemmas.List.{length-append, get_or_append_left, get_or-append-add}
+use Rattle.std.proofs.lemmas.List.FromFn.{length-range_with_len, get_or-range_with_len}
 use Rattle.sm_lists.specs.Rows.{place_on}
 use Rattle.sm_lists.proofs.Counting.{one_to_one-le}
 use Rattle.sm_lists.proofs.PlaceLemmas.{get_or-place_on, place_on-le-at, place_on-lt, length-le-range}
@@ -79,10 +79,6 @@ apart_each_once order n long a = record {
 
     missing : (p : ℕ) → p < n → length order ≤ place_on order p → ⊥
     missing p l past = let le = length-le-range (order ++ p ∷ []) n (within p l) (apart p past) in let more = length-append order (p ∷ []) in omega (arith, le, more, long)
-
--- the first n numbers and the next
-pub range_more : (n : ℕ) → range_with_len 0 (n + 1) ≡ range_with_len 0 n ++ n ∷ []
-range_more n = sym (map-id (range_with_len 0 (n + 1))) ∙ map-range_with_len_more (λ x. x) 0 n n (omega arith) ∙ ap (λ xs. xs ++ n ∷ []) (map-id (range_with_len 0 n))
 
 -- an instance whose proposers are compared in another order is one
 pub with_order : {w : Written} → IsInstance w → (order : List ℕ) → IsEachOnce (length w.proposers) order → IsInstance (record w { order = order })

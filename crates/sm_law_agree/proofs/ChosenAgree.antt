@@ -10,7 +10,7 @@ use Rattle.sm_theory.specs.declared.choice.Choice.{Choice}
 use Rattle.sm_theory.specs.declared.choice.Choice.TheVariants.{Better, Worse}
 use Rattle.sm_report.specs.Heads.{HeadData}
 use Rattle.sm_report.specs.Lines.{LineData}
-use Rattle.sm_pairs.specs.Held.{places_in, IsFree}
+use Rattle.sm_pairs.specs.Held.{places_in, CanFollow}
 use Rattle.sm_pairs.specs.Chosen.{chosen_places}
 use Rattle.sm_pairs.proofs.ChoiceLemmas.{chosen_assigned}
 use Rattle.sm_answer_given.specs.Chosen.{chosen_lines}
@@ -38,13 +38,13 @@ module _ (choice : Choice) (w : Written) where
   abbrev wanted_in : List LineData → List (Option ℕ)
   wanted_in above = chosen_places choice w (places_in w (lefts_in above)) (places_in w (rights_in above))
 
-  left_holds : (above : List LineData) (p r : ℕ) → IsFree w (lefts_in above) (p, r) → (why : Reason) → C above (LineData.LeftPair p r) why
+  left_holds : (above : List LineData) (p r : ℕ) → CanFollow w (lefts_in above) (p, r) → (why : Reason) → C above (LineData.LeftPair p r) why
   left_holds above p r free reason.NotAMatching = ((free, tt), tt)
   left_holds above p r free reason.Blocked = ((λ e. no_end e), tt)
   left_holds above p r free reason.WrongPair = (tt, (tt, (λ e. no_end e)))
   left_holds above p r free _ = (tt, tt)
 
-  right_holds : (above : List LineData) (p r : ℕ) → IsFree w (rights_in above) (p, r) → (why : Reason) → C above (LineData.RightPair p r) why
+  right_holds : (above : List LineData) (p r : ℕ) → CanFollow w (rights_in above) (p, r) → (why : Reason) → C above (LineData.RightPair p r) why
   right_holds above p r free reason.NotAMatching = ((tt, free), tt)
   right_holds above p r free reason.Blocked = ((λ e. no_end e), tt)
   right_holds above p r free reason.WrongPair = (tt, (tt, (λ e. no_end e)))

@@ -23,6 +23,7 @@ use Rattle.sm_theory.proofs.Flow.Second.{step_of_edge}
 use Rattle.sm_theory.proofs.Net.Tests.{and_parts}
 use Rattle.sm_report.specs.Texts.{SINK}
 use Rattle.sm_answer_weight.specs.WeightAnswer.{shown_node, member_numbers}
+use Rattle.sm_answer_weight.proofs.MemberLemmas.{members_more}
 use Rattle.sm_check_clauses.specs.Flows.{node_of, on_nodes, set_of_numbers}
 
 -- Nodes.
@@ -166,7 +167,7 @@ module _ (set : List Bool) (k : ℕ) where
   same_number n true e = ap (λ t. t || false) (eq-eqb (suc n) (k + 1) (omega (arith, e)))
 
   more_numbers : (n : ℕ) → list_any is_number (member_numbers set (suc n)) ≡ (list_any is_number (member_numbers set n) || list_any is_number (if_member n (is_member set n)))
-  more_numbers n = list_any-append is_number (member_numbers set n) (if_member n (is_member set n))
+  more_numbers n = ap (list_any is_number) (members_more set n) ∙ list_any-append is_number (member_numbers set n) (if_member n (is_member set n))
 
   -- a number past the last isn't there
   past_numbers : (n : ℕ) → n ≤ k → list_any is_number (member_numbers set n) ≡ false
@@ -202,7 +203,7 @@ set_of_numbers-member_numbers set size is =
 numbers_there : (set : List Bool) (n : ℕ) → All (λ i. i ≤ n) (member_numbers set n)
 numbers_there set zero = λ k d less. absurd (omega (arith, less))
 numbers_there set (suc n) =
-    All-append (λ i. i ≤ suc n) (member_numbers set n) (if is_member set n then suc n ∷ [] else []) (λ k d less. let le = numbers_there set n k d less in omega (arith, le)) (one (is_member set n))
+    subst (All (λ i. i ≤ suc n)) (sym (members_more set n)) (All-append (λ i. i ≤ suc n) (member_numbers set n) (if is_member set n then suc n ∷ [] else []) (λ k d less. let le = numbers_there set n k d less in omega (arith, le)) (one (is_member set n)))
   where
     one : (t : Bool) → All (λ i. i ≤ suc n) (if t then suc n ∷ [] else [])
     one true = All-cons (λ i. i ≤ suc n) (suc n) [] (omega arith) (λ k d less. absurd (omega (arith, less)))

@@ -187,6 +187,6 @@ list_agrees w after limit lines i h a =
     let l = a.listed in
     let x = head w after limit l.out l.more l.listing ∷ vector_lines after l.out l.more in
     subst (GetYes (Two w)) (sym l.shows)
-    (yes_of (Two w) x (subst (All (IsLineOf (Two w))) l.shows (list_sound limit i h.0 h.1.least h.1.greatest lines a))
+    (yes_of (Two w) x (subst (All (IsLineOf (Two w))) l.shows (list_sound limit i h.0 h.1.0 h.1.1 lines a))
     (fitting w after limit l.out l.more l.listing a.cursor) (placed w after limit l.out l.more l.listing)
     (all_hold (C w after limit) x (all w after limit l.out l.more l.listing)))

@@ -14,7 +14,7 @@ use Rattle.sm_instance.proofs.ListLemmas.{row_in_range}
 use Rattle.sm_instance.proofs.LoadLemmas.{load_before-suc}
 use Rattle.sm_instance.proofs.BreachLemmas.{load_mono}
 use Rattle.sm_instance.proofs.PlaceLemmas.{place_of-entry}
-use Rattle.sm_pairs.specs.Held.{partner_in, paired_place, places_in, times_second, IsFree}
+use Rattle.sm_pairs.specs.Held.{partner_in, paired_place, places_in, times_second, CanFollow}
 use Rattle.sm_pairs.proofs.HoldingLemmas.{partner_in-push_same, partner_in-push_other, held_place}
 use Rattle.sm_pairs.proofs.PairLemmas.{times_second-push}
 use Rattle.sm_report.specs.Lines.{LineData}
@@ -70,7 +70,7 @@ module _ {w : Written} {places : List (Option ℕ)} {p : ℕ} {pairs : List (ℕ
   }
 
   -- the next pair may stand behind these
-  pub free_below : IsMatching w places → (i : ℕ) → held places p ≡ Some i → IsFree w pairs (p, entry w.proposers p i)
+  pub free_below : IsMatching w places → (i : ℕ) → held places p ≡ Some i → CanFollow w pairs (p, entry w.proposers p i)
   free_below m i e =
       let r = entry w.proposers p i in
       let there = m.acceptable p i e in

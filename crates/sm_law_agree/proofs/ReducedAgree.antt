@@ -21,7 +21,7 @@ use Rattle.sm_seats.specs.SeatMarket.{seat_market, seats_of}
 use Rattle.sm_seats.specs.Seating.{Seating, seating_of}
 use Rattle.sm_seats.specs.Correspondence.{IsSeating}
 use Rattle.sm_seats.proofs.CorrespondenceLaws.{is_seating, sound_entries}
-use Rattle.sm_seats.proofs.PieceLemmas.{range_more}
+use Rattle.sm_lists.proofs.RangeLemmas.{range_more}
 use Rattle.sm_answer_rotations.specs.Reduction.{seat_of, seat_line, proposer_line, reviewer_line, reduced_lines}
 use Rattle.sm_answer_rotations.specs.GivenLines.{reduced_given}
 use Rattle.sm_answer_rotations.proofs.ReduceLemmas.{reduced_named, reduced_given_sound}

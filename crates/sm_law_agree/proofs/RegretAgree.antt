@@ -23,7 +23,7 @@ use Rattle.sm_report.specs.declared.keywords.Keyword.TheVariants as keyword
 use Rattle.sm_check_forms.specs.declared.layouts.LayoutPart.TheVariants.{One}
 use Rattle.sm_check_forms.specs.Layouts.{is_whole}
 use Rattle.sm_check_forms.specs.Forms.{fits, is_placed}
-use Rattle.sm_pairs.specs.Held.{places_in, IsFree}
+use Rattle.sm_pairs.specs.Held.{places_in, CanFollow}
 use Rattle.sm_check_clauses.specs.declared.verdicts.Reason.{Reason}
 use Rattle.sm_check_clauses.specs.declared.verdicts.Reason.TheVariants as reason
 use Rattle.sm_check_clauses.specs.Said.{pair_in, pairs_in, regret_in, first_said}
@@ -76,7 +76,7 @@ module _ (w : Written) where
   regret_holds above n reason.WrongRegret = λ e. no_end e
   regret_holds above n _ = tt
 
-  pair_holds : (above : List LineData) (p r : ℕ) → IsFree w (pairs_in above) (p, r) → (why : Reason) → C above (LineData.Pair p r) why
+  pair_holds : (above : List LineData) (p r : ℕ) → CanFollow w (pairs_in above) (p, r) → (why : Reason) → C above (LineData.Pair p r) why
   pair_holds above p r free reason.NotAMatching = free
   pair_holds above p r free reason.Blocked = λ e. no_end e
   pair_holds above p r free reason.NotAllowed = λ e. no_end e

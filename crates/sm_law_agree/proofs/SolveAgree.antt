@@ -15,7 +15,7 @@ use Rattle.sm_report.specs.declared.keywords.Keyword.TheVariants as keyword
 use Rattle.sm_check_forms.specs.declared.layouts.LayoutPart.TheVariants.{One}
 use Rattle.sm_check_forms.specs.Layouts.{is_whole}
 use Rattle.sm_check_forms.specs.Forms.{fits, is_placed}
-use Rattle.sm_pairs.specs.Held.{places_in, IsFree}
+use Rattle.sm_pairs.specs.Held.{places_in, CanFollow}
 use Rattle.sm_check_clauses.specs.declared.verdicts.Reason.{Reason}
 use Rattle.sm_check_clauses.specs.declared.verdicts.Reason.TheVariants as reason
 use Rattle.sm_check_clauses.specs.Said.{pair_in, pairs_in}
@@ -32,7 +32,7 @@ module _ (w : Written) (side : Side) where
   head_holds above reason.NotBest = λ e. no_end e
   head_holds above _ = tt
 
-  pair_holds : (above : List LineData) (p r : ℕ) → IsFree w (pairs_in above) (p, r) → (why : Reason) → Clauses (answer w (HeadData.Solve (Some side))) above (LineData.Pair p r) why
+  pair_holds : (above : List LineData) (p r : ℕ) → CanFollow w (pairs_in above) (p, r) → (why : Reason) → Clauses (answer w (HeadData.Solve (Some side))) above (LineData.Pair p r) why
   pair_holds above p r free reason.NotAMatching = free
   pair_holds above p r free reason.Blocked = λ e. no_end e
   pair_holds above p r free reason.NotBest = λ e. no_end e

@@ -21,7 +21,7 @@ use Rattle.sm_keys.specs.Tables.{has_repeated}
 use Rattle.sm_keys.proofs.TextLemmas.{equal_text}
 use Rattle.sm_report.proofs.DecimalLemmas.{number_of-decimal}
 use Rattle.sm_printed.specs.Printed.{list_text, capacity_text, proposer_line, reviewer_line}
-use Rattle.sm_law_reprint.proofs.LineLemmas.{words_cut, tokens-named, tokens-bracketed, decimal_is_run, begins_run-run, IsFree, both_free, name_free, words_free, list_free, capacity_free}
+use Rattle.sm_law_reprint.proofs.LineLemmas.{words_cut, tokens-named, tokens-bracketed, decimal_is_run, begins_run-run, HasNoEnds, both_free, name_free, words_free, list_free, capacity_free}
 use Rattle.sm_law_reprint.proofs.VerdictLemmas.{IsFaultless, proposer_goes, reviewer_goes, hospital_goes}
 
 -- an item that differs from those before it isn't found among them
@@ -114,7 +114,7 @@ module _ (kind : Kind) (format : ℕ) (done : List SaidAgent) (a : SaidAgent) (t
       ∙ ap (λ (c : ℕ). goes (with_proposers (done ++ (record { name = a.name; capacity = c; line = n; entries = a.entries }) ∷ []))) (sym (own.one refl))
 
 -- the line of a proposer holds neither LF nor CR
-pub proposer_free : (a : SaidAgent) → IsOwn true a → IsFree (proposer_line a)
+pub proposer_free : (a : SaidAgent) → IsOwn true a → HasNoEnds (proposer_line a)
 proposer_free a own = both_free (both_free words_free.0 (name_free a.name own.name)) (list_free a.entries own.entries)
 
 -- A line of a reviewer.
@@ -162,6 +162,6 @@ module _ (proposers done : List SaidAgent) (a : SaidAgent) (todo : List SaidAgen
       ∙ ap (λ o. goes (added n (unwrap_or o 1))) spelt
 
 -- the line of a reviewer holds neither LF nor CR
-pub reviewer_free : (kind : Kind) (single : Bool) (a : SaidAgent) → IsOwn single a → IsFree (reviewer_line kind a)
+pub reviewer_free : (kind : Kind) (single : Bool) (a : SaidAgent) → IsOwn single a → HasNoEnds (reviewer_line kind a)
 reviewer_free kind single a own =
     both_free (both_free (both_free words_free.1 (name_free a.name own.name)) (capacity_free kind a.capacity (omega (arith, own.capacity)))) (list_free a.entries own.entries)

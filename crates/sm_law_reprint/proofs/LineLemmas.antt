@@ -52,7 +52,7 @@ signed_is_run (negsuc n) small =
 -- Lines hold neither LF nor CR.
 
 -- neither stands in a run
-pub record IsFree (text : List ℕ) : Type 0 where
+pub record HasNoEnds (text : List ℕ) : Type 0 where
   pub of_LF : is_free LF text ≡ true
   pub of_CR : is_free CR text ≡ true
 
@@ -61,40 +61,40 @@ unfolding is_name_byte begins_name
 ends_no_run = (refl, refl)
 
 -- a run of name bytes holds neither LF nor CR
-pub run_free : (run : List ℕ) → list_all is_name_byte run ≡ true → IsFree run
+pub run_free : (run : List ℕ) → list_all is_name_byte run ≡ true → HasNoEnds run
 run_free run bytes = record { of_LF = free_of is_name_byte LF ends_no_run.0 run bytes; of_CR = free_of is_name_byte CR ends_no_run.1 run bytes }
 
 -- two texts that hold neither don't hold them joined
-pub both_free : {xs ys : List ℕ} → IsFree xs → IsFree ys → IsFree (xs ++ ys)
+pub both_free : {xs ys : List ℕ} → HasNoEnds xs → HasNoEnds ys → HasNoEnds (xs ++ ys)
 both_free {xs} {ys} h k = record { of_LF = free-append LF xs ys h.of_LF k.of_LF; of_CR = free-append CR xs ys h.of_CR k.of_CR }
 
 -- a name holds neither
-pub name_free : (name : List ℕ) → is_name name ≡ true → IsFree name
+pub name_free : (name : List ℕ) → is_name name ≡ true → HasNoEnds name
 name_free name h = run_free name (name_is_run name h).bytes
 
 -- nor do names behind spaces
-pub spaced_free : (names : List (List ℕ)) → list_all is_name names ≡ true → IsFree (spaced names)
+pub spaced_free : (names : List (List ℕ)) → list_all is_name names ≡ true → HasNoEnds (spaced names)
 spaced_free [] are = record { of_LF = refl; of_CR = refl }
 spaced_free (name ∷ names) are =
     let first = name_free name (first_true (is_name name) (list_all is_name names) are) in
-    let space : IsFree (codes " ") = record { of_LF = refl; of_CR = refl } in
+    let space : HasNoEnds (codes " ") = record { of_LF = refl; of_CR = refl } in
     both_free (both_free space first) (spaced_free names (second_true (is_name name) (list_all is_name names) are))
 
 -- nor does the text of a list
-pub list_free : (names : List (List ℕ)) → list_all is_name names ≡ true → IsFree (list_text names)
-list_free names are = let colon : IsFree (codes ":") = record { of_LF = refl; of_CR = refl } in both_free colon (spaced_free names are)
+pub list_free : (names : List (List ℕ)) → list_all is_name names ≡ true → HasNoEnds (list_text names)
+list_free names are = let colon : HasNoEnds (codes ":") = record { of_LF = refl; of_CR = refl } in both_free colon (spaced_free names are)
 
 -- nor does the text of a capacity
-pub capacity_free : (kind : Kind) (capacity : ℕ) → capacity < 2 ^ 64 → IsFree (capacity_text kind capacity)
+pub capacity_free : (kind : Kind) (capacity : ℕ) → capacity < 2 ^ 64 → HasNoEnds (capacity_text kind capacity)
 capacity_free Marriage capacity small = record { of_LF = refl; of_CR = refl }
 capacity_free Hospitals capacity small =
-    let opening : IsFree (codes " [") = record { of_LF = refl; of_CR = refl } in
-    let closing : IsFree (codes "]") = record { of_LF = refl; of_CR = refl } in
+    let opening : HasNoEnds (codes " [") = record { of_LF = refl; of_CR = refl } in
+    let closing : HasNoEnds (codes "]") = record { of_LF = refl; of_CR = refl } in
     both_free (both_free opening (run_free (decimal capacity) (decimal_is_run capacity small).bytes)) closing
 capacity_free Roommates capacity small = record { of_LF = refl; of_CR = refl }
 
 -- nor do the words of lines
-pub words_free : IsFree (codes "p ") × IsFree (codes "r ") × IsFree (codes "weight ") × IsFree (codes "force ") × IsFree (codes "forbid ") × IsFree (codes " ") × IsFree (codes "end")
+pub words_free : HasNoEnds (codes "p ") × HasNoEnds (codes "r ") × HasNoEnds (codes "weight ") × HasNoEnds (codes "force ") × HasNoEnds (codes "forbid ") × HasNoEnds (codes " ") × HasNoEnds (codes "end")
 words_free = (
   record { of_LF = refl; of_CR = refl },
   record { of_LF = refl; of_CR = refl },
@@ -106,7 +106,7 @@ words_free = (
 )
 
 -- nor does a header
-pub header_free : (second : Bool) (kind : Kind) → IsFree (header_line (if second then 2 else 1) kind)
+pub header_free : (second : Bool) (kind : Kind) → HasNoEnds (header_line (if second then 2 else 1) kind)
 unfolding fmt.digits
 header_free true Marriage = record { of_LF = refl; of_CR = refl }
 header_free true Hospitals = record { of_LF = refl; of_CR = refl }

@@ -20,7 +20,7 @@ use Rattle.sm_text.specs.Tokens.{begins_run}
 use Rattle.sm_instance.specs.Ranks.{is_zero}
 use Rattle.sm_printed.specs.Printed.{pair_text, weight_line, force_line, forbid_line}
 use Rattle.sm_law_reprint.proofs.CutLemmas.{tokens-run, tokens-run_alone, tokens-blank, no_run}
-use Rattle.sm_law_reprint.proofs.LineLemmas.{words_cut, tokens-pair, signed_is_run, begins_run-run, IsFree, both_free, name_free, run_free, words_free}
+use Rattle.sm_law_reprint.proofs.LineLemmas.{words_cut, tokens-pair, signed_is_run, begins_run-run, HasNoEnds, both_free, name_free, run_free, words_free}
 use Rattle.sm_law_reprint.proofs.VerdictLemmas.{weight_goes, second_goes, force_goes, forbid_goes}
 use Rattle.sm_law_reprint.proofs.AgentLemmas.{fresh_in}
 
@@ -35,7 +35,7 @@ module _ (pair : SaidPair) (names : HasNames pair) where
   two_cut : tokens (pair_text pair) ≡ pair.proposer ∷ pair.reviewer ∷ []
   two_cut = ap tokens (sym (append-nil (pair_text pair))) ∙ tokens-pair pair.proposer pair.reviewer [] names.proposer names.reviewer refl
 
-  two_free : IsFree (pair_text pair)
+  two_free : HasNoEnds (pair_text pair)
   two_free = both_free (both_free (name_free pair.proposer names.proposer) words_free.5) (name_free pair.reviewer names.reviewer)
 
 -- a pair that stands on line n
@@ -172,19 +172,19 @@ module _ (proposers reviewers : List SaidAgent) where
           ∙ forbid_goes (with_forbidden forced done) pair.proposer pair.reviewer names.proposer names.reviewer kind format n two
 
 -- the line of a forced pair holds neither LF nor CR
-pub force_free : (pair : SaidPair) → HasNames pair → IsFree (force_line pair)
+pub force_free : (pair : SaidPair) → HasNames pair → HasNoEnds (force_line pair)
 force_free pair names = both_free words_free.3 (two_free pair names)
 
 -- nor does that of a forbidden pair
-pub forbid_free : (pair : SaidPair) → HasNames pair → IsFree (forbid_line pair)
+pub forbid_free : (pair : SaidPair) → HasNames pair → HasNoEnds (forbid_line pair)
 forbid_free pair names = both_free words_free.4 (two_free pair names)
 
 -- nor does that of a weight
-pub weight_free : (w : SaidWeight) → IsOwnWeight w → IsFree (weight_line w)
+pub weight_free : (w : SaidWeight) → IsOwnWeight w → HasNoEnds (weight_line w)
 weight_free w own =
     let run = signed_decimal w.weight in
     both_free (both_free (both_free (both_free words_free.2 (two_free w.pair own.names)) words_free.5) (run_free run (signed_is_run w.weight (omega (arith, own.size))).bytes)) (by_test (is_zero w.second))
   where
-    by_test : (t : Bool) → IsFree (if t then [] else codes " " ++ signed_decimal w.second)
+    by_test : (t : Bool) → HasNoEnds (if t then [] else codes " " ++ signed_decimal w.second)
     by_test true = record { of_LF = refl; of_CR = refl }
     by_test false = both_free words_free.5 (run_free (signed_decimal w.second) (signed_is_run w.second (omega (arith, own.second_size))).bytes)

@@ -23,7 +23,7 @@ use Rattle.sm_reader.specs.InstanceText.{ended, behind_header, before_header, in
 use Rattle.sm_instance.specs.Ranks.{is_zero}
 use Rattle.sm_printed.specs.Printed.{format_of, header_line, proposer_line, reviewer_line, weight_line, force_line, forbid_line, order_line, order_lines, last_lines, agent_lines, printed_lines}
 use Rattle.sm_law_reprint.proofs.CutLemmas.{with_end, lines_cut, content_of, no_run, tokens-spaced}
-use Rattle.sm_law_reprint.proofs.LineLemmas.{IsFree, both_free, spaced_free, header_free, words_free, order_cut}
+use Rattle.sm_law_reprint.proofs.LineLemmas.{HasNoEnds, both_free, spaced_free, header_free, words_free, order_cut}
 use Rattle.sm_law_reprint.proofs.VerdictLemmas.{order_goes, heading_of-header, verdict_on-end}
 use Rattle.sm_law_reprint.proofs.SectionLemmas.{lined, one_read, section_read, section_free}
 use Rattle.sm_law_reprint.proofs.AgentLemmas.{IsOwn, AreAgents, on_line, agents_next, with_proposers, proposer_step, proposer_free, with_reviewers, reviewer_step, reviewer_free}
@@ -89,8 +89,8 @@ spaced_apart [] = refl
 spaced_apart (name ∷ names) = (no_run (name ++ spaced names)).0
 
 -- the line of an order holds no end of a line
-order_free : (order : SaidOrder) → IsOwnOrder order → IsFree (order_line order)
-order_free order own = let word : IsFree (codes "order") = record { of_LF = refl; of_CR = refl } in both_free word (spaced_free order.names own.names)
+order_free : (order : SaidOrder) → IsOwnOrder order → HasNoEnds (order_line order)
+order_free order own = let word : HasNoEnds (codes "order") = record { of_LF = refl; of_CR = refl } in both_free word (spaced_free order.names own.names)
 
 -- a section of proposers, and then the others
 module _ (kind : Kind) (format header : ℕ) where

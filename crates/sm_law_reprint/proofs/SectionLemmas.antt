@@ -13,7 +13,7 @@ use Rattle.sm_report.proofs.FreeLemmas.{is_free}
 use Rattle.sm_reader.specs.Judging.{goes, verdict_on}
 use Rattle.sm_reader.specs.InstanceText.{behind_header}
 use Rattle.sm_law_reprint.proofs.CutLemmas.{with_end, content_of}
-use Rattle.sm_law_reprint.proofs.LineLemmas.{IsFree}
+use Rattle.sm_law_reprint.proofs.LineLemmas.{HasNoEnds}
 
 -- items with the numbers of their lines, of which the first is given
 abbrev pub lined : {X : Type 0} → (ℕ → X → X) → ℕ → List X → List X
@@ -33,7 +33,7 @@ same_reading kind format header rest a b c = cc
 module _ {X : Type 0} (kind : Kind) (format header : ℕ) (line : X → List ℕ) (f : ℕ → X → X) (state : List X → Said) (Good : List X → List X → Type 0)
     (step : (done : List X) (x : X) (todo : List X) (n : ℕ) → Good done (x ∷ todo) → verdict_on kind format (state done) n (tokens (line x)) ≡ goes (state (done ++ f n x ∷ [])))
     (next : (done : List X) (x : X) (todo : List X) (n : ℕ) → Good done (x ∷ todo) → Good (done ++ f n x ∷ []) todo)
-    (free : (done : List X) (x : X) (todo : List X) → Good done (x ∷ todo) → IsFree (line x)) where
+    (free : (done : List X) (x : X) (todo : List X) → Good done (x ∷ todo) → HasNoEnds (line x)) where
   each_read : (rest : List (List ℕ)) (todo done : List X) (n place : ℕ) → Good done todo
       → behind_header kind format header (state done) n place (map with_end (map line todo) ++ rest)
       ≡ behind_header kind format header (state (done ++ lined f n todo)) (n + length todo) (place + length (text_of (map line todo))) rest
@@ -54,7 +54,7 @@ module _ {X : Type 0} (kind : Kind) (format header : ℕ) (line : X → List ℕ
       ap (behind_header kind format header (state []) n place) (map-append with_end (map line items) rest) ∙ each_read (map with_end rest) items [] n place good
 
 -- no line of a section holds an end of a line
-pub section_free : {X : Type 0} (P : X → Type 0) (line : X → List ℕ) → ((x : X) → P x → IsFree (line x)) → (xs : List X) → All P xs → list_all (is_free LF) (map line xs) ≡ true
+pub section_free : {X : Type 0} (P : X → Type 0) (line : X → List ℕ) → ((x : X) → P x → HasNoEnds (line x)) → (xs : List X) → All P xs → list_all (is_free LF) (map line xs) ≡ true
 section_free P line free [] all = refl
 section_free P line free (x ∷ xs) all =
     and_from (is_free LF (line x)) (list_all (is_free LF) (map line xs)) (free x (All-head P x xs all)).of_LF (section_free P line free xs (All-tail P x xs all))

@@ -5,7 +5,7 @@ use Rattle.std.proofs.Math.Seq.{drop-append_seam}
 use Rattle.std.proofs.lemmas.List.Elements.{All-head, All-tail}
 use Rattle.std.proofs.lemmas.Bool.{and_from}
 use Rattle.sm_text.specs.Limits.{most_bytes}
-use Rattle.sm_text.specs.Lines.{LF, CR, lines, content}
+use Rattle.sm_text.specs.Lines.{LF, CR, lines, content, texts_from}
 use Rattle.sm_text.specs.Tokens.{tokens}
 use Rattle.sm_instance.specs.Inputs.{IsInput}
 use Rattle.sm_instance.specs.declared.inputs.Input.{Input}
@@ -20,7 +20,6 @@ use Rattle.sm_report.proofs.DecimalLemmas.{first_true, second_true}
 use Rattle.sm_report.proofs.FreeLemmas.{is_free}
 use Rattle.sm_report.proofs.FreeLines.{line_free}
 use Rattle.sm_answer.specs.Writing.{text_of}
-use Rattle.sm_answer_given.specs.GivenText.{texts_from}
 use Rattle.sm_law_reprint.proofs.CutLemmas.{with_end, lines_cut, content_of}
 
 -- the lines of two texts, of which LF ends the first

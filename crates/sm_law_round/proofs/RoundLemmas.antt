@@ -2,6 +2,7 @@
 use Rattle.std.proofs.Common.{◌≡◌, ℕ, ◌≤◌, ◌++◌, ◌∷◌, [], inl, inr, List, length, map, Option, None, Some, Result, Ok, Err, refl, sym, ap, ◌∙◌, subst, unwrap_or}
 use Rattle.std.specs.Option.{option_map}
 use Rattle.std.proofs.lemmas.Option.{none-some}
+use Rattle.sm_text.specs.Lines.{texts_from}
 use Rattle.sm_text.specs.Limits.{most_bytes}
 use Rattle.sm_text.specs.declared.refusal.RefusalKind.TheVariants.{TooManySeats}
 use Rattle.sm_instance.specs.Written.{Written, agent_at}
@@ -26,7 +27,6 @@ use Rattle.sm_seats.specs.SeatEntries.{AreFewSeats, first_too_many}
 use Rattle.sm_seats.proofs.LimitLaws.{few_where_none}
 use Rattle.sm_answer_rotations.specs.Reduction.{IsReduction}
 use Rattle.sm_answer_rotations.specs.RotationAnswer.{IsRotationAnswer}
-use Rattle.sm_answer_given.specs.GivenText.{texts_from}
 use Rattle.sm_answer_given.specs.Chosen.{IsChosenAnswer}
 use Rattle.sm_check_clauses.specs.Judging.{IsJudged}
 use Rattle.sm_check_clauses.specs.declared.verdicts.Verdict.TheVariants as verdict

@@ -18,7 +18,7 @@ use Rattle.sm_instance.proofs.LoadLemmas.{load_before-suc, at_place, place_at, t
 use Rattle.sm_market.specs.Lists.{entry as entry_in_rows}
 use Rattle.sm_theory.specs.declared.choice.Choice.{Choice}
 use Rattle.sm_theory.specs.declared.choice.Choice.TheVariants.{Better, Worse}
-use Rattle.sm_pairs.specs.Held.{partner_in, paired_place, places_in, IsFree, AreFree, CanHold, GiveStable}
+use Rattle.sm_pairs.specs.Held.{partner_in, paired_place, places_in, CanFollow, EachCanFollow, CanHold, GiveStable}
 use Rattle.sm_pairs.specs.Chosen.{chosen_places, head_for}
 use Rattle.sm_pairs.proofs.ChoiceLemmas.{chosen_assigned}
 use Rattle.sm_pairs.proofs.HoldingLemmas.{held_place}
@@ -171,7 +171,7 @@ module _ {w : Written} {places : List (Option ℕ)} {pairs : List (ℕ × ℕ)} 
                 absurd (nothing (sym (ap (option_map (place_of w.proposers q)) none) ∙ sym (held_place w front q (omega (arith, l, long))) ∙ e))
 
     -- so it may stand behind them, where they can be held
-    free_behind : AreFree w pairs k → IsFree w front (p, r)
+    free_behind : EachCanFollow w pairs k → CanFollow w front (p, r)
     free_behind earlier =
         let d = paired p r (pair_there pairs k inside) in
         let there = held_there places p (place_of w.proposers p r) d.holds in
@@ -185,7 +185,7 @@ module _ {w : Written} {places : List (Option ℕ)} {pairs : List (ℕ × ℕ)} 
           place_free = omega (arith, count, room, within);
         }
 
-  first_free : (n : ℕ) → n ≤ length pairs → AreFree w pairs n
+  first_free : (n : ℕ) → n ≤ length pairs → EachCanFollow w pairs n
   first_free zero le j l = absurd (omega (arith, l))
   first_free (suc n) le j l =
       let below = first_free n (omega (arith, le)) in

@@ -9,7 +9,7 @@ use Rattle.sm_instance.specs.Allowed.{IsAllowed}
 use Rattle.sm_instance.specs.Ranks.{regret_of}
 use Rattle.sm_instance.specs.declared.kinds.Side.{Side}
 use Rattle.sm_theory.specs.declared.choice.Choice.{Choice}
-use Rattle.sm_pairs.specs.Held.{places_in, IsFree}
+use Rattle.sm_pairs.specs.Held.{places_in, CanFollow}
 use Rattle.sm_pairs.specs.Chosen.{chosen_places}
 use Rattle.sm_report.specs.Heads.{HeadData}
 use Rattle.sm_report.specs.Lines.{LineData}
@@ -56,7 +56,7 @@ module _ (w : Written) (side : Side) where
   solve_carries a b z reason.NotBest s h = λ e. subst (IsBestOf side w) (same_places w s) (h e)
   solve_carries a b z _ s h = tt
 
-  solve_at : (above : List LineData) (x : LineData) → is_free (keyword_of x) ≡ true → IfSome (pair_in x) (IsFree w (pairs_in above)) → (why : Reason) → SolveClauses above x why
+  solve_at : (above : List LineData) (x : LineData) → is_free (keyword_of x) ≡ true → IfSome (pair_in x) (CanFollow w (pairs_in above)) → (why : Reason) → SolveClauses above x why
   solve_at above x f h reason.NotAMatching = h
   solve_at above x f h reason.Blocked = not_closing x f
   solve_at above x f h reason.NotBest = not_closing x f
@@ -91,7 +91,7 @@ module _ (w : Written) where
       ap (λ (ns : List ℕ). slice_index_or ns 0 0) (sym s.regrets) ∙ h e ∙ ap (regret_of w) (same_places w s.pairs)
   regret_carries a b z _ s h = tt
 
-  regret_at : (above : List LineData) (x : LineData) → is_free (keyword_of x) ≡ true → IfSome (pair_in x) (IsFree w (pairs_in above)) → (why : Reason) → RegretClauses w above x why
+  regret_at : (above : List LineData) (x : LineData) → is_free (keyword_of x) ≡ true → IfSome (pair_in x) (CanFollow w (pairs_in above)) → (why : Reason) → RegretClauses w above x why
   regret_at above x f h reason.NotAMatching = h
   regret_at above x f h reason.Blocked = not_closing x f
   regret_at above x f h reason.NotAllowed = not_closing x f
@@ -154,7 +154,7 @@ module _ (choice : Choice) (w : Written) where
   )
   chosen_carries a b z _ s h = (tt, tt)
 
-  chosen_at : (above : List LineData) (x : LineData) → is_free (keyword_of x) ≡ true → IfSome (left_in x) (IsFree w (lefts_in above)) → IfSome (right_in x) (IsFree w (rights_in above))
+  chosen_at : (above : List LineData) (x : LineData) → is_free (keyword_of x) ≡ true → IfSome (left_in x) (CanFollow w (lefts_in above)) → IfSome (right_in x) (CanFollow w (rights_in above))
       → IfSome (pair_in x) (IsWanted w (chosen_above above) (pairs_in above)) → (why : Reason) → ChosenClauses above x why
   chosen_at above x f l r p reason.NotAMatching = ((l, r), tt)
   chosen_at above x f l r p reason.Blocked = (not_closing x f, tt)

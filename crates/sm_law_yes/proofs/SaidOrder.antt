@@ -13,7 +13,7 @@ use Rattle.sm_report.specs.declared.keywords.Keyword.{Keyword}
 use Rattle.sm_report.specs.Keywords.{keyword_of}
 use Rattle.sm_check_forms.specs.Keywords.{is_same}
 use Rattle.sm_check_forms.proofs.TakingLemmas.{and_left, and_right}
-use Rattle.sm_pairs.specs.Held.{IsFree}
+use Rattle.sm_pairs.specs.Held.{CanFollow}
 use Rattle.sm_check_clauses.specs.Pairs.{IsWanted}
 use Rattle.sm_check_clauses.specs.SeatMatchings.{IsFreeSeat}
 use Rattle.sm_check_clauses.specs.Said.{IsFirstBehind, IsEnd}
@@ -51,7 +51,7 @@ pub record AreFreely {X : Type 0} (Free : List X → X → Type 0) (IsSame : Lis
   pub same : (xs : List X) (a b : X) → Free xs a → Free (xs ++ a ∷ []) b → IsSame ((xs ++ a ∷ []) ++ b ∷ []) ((xs ++ b ∷ []) ++ a ∷ [])
 
 -- pairs of an instance
-pub freely : (w : Written) → AreFreely (IsFree w) AreSamePairs
+pub freely : (w : Written) → AreFreely (CanFollow w) AreSamePairs
 freely w = record {
   still = λ xs. same_pairs xs xs refl;
   first = λ xs a b f g. free_first xs a b f g;

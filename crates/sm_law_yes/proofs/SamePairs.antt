@@ -8,7 +8,7 @@ use Rattle.std.proofs.lemmas.List.Sums.{sum_by-append}
 use Rattle.sm_instance.specs.Written.{Written, place_of, capacity_of}
 use Rattle.sm_market.specs.Lists.{Lists, place_of as market_place_of, agents}
 use Rattle.sm_theory.specs.Lattice.{with_proposers}
-use Rattle.sm_pairs.specs.Held.{partner_in, places_in, times_second, IsFree}
+use Rattle.sm_pairs.specs.Held.{partner_in, places_in, times_second, CanFollow}
 use Rattle.sm_pairs.proofs.PairLemmas.{times_second-push}
 use Rattle.sm_check_clauses.specs.Pairs.{IsWanted, AreAllThere}
 use Rattle.sm_check_clauses.specs.SeatMatchings.{IsFreeSeat, seat_places_in}
@@ -81,7 +81,7 @@ pub same_seat_places : (l : Lists) {xs ys : List (ℕ × ℕ)} → AreSamePairs 
 same_seat_places l {xs} {ys} s = ap (λ (f : ℕ → Option ℕ). with_proposers l (map (λ p. option_map (market_place_of l.proposers p) (f p)) (agents l.proposers))) (λ i p. s.partners p i)
 
 -- whether one more may stand behind them
-pub free_same : {w : Written} {xs ys : List (ℕ × ℕ)} {pair : ℕ × ℕ} → AreSamePairs xs ys → IsFree w xs pair → IsFree w ys pair
+pub free_same : {w : Written} {xs ys : List (ℕ × ℕ)} {pair : ℕ × ℕ} → AreSamePairs xs ys → CanFollow w xs pair → CanFollow w ys pair
 free_same {w} {xs} {ys} {pair} s f = record {
   acceptable = f.acceptable;
   proposer_free = sym (s.partners pair.0) ∙ f.proposer_free;
@@ -132,13 +132,13 @@ module _ (xs : List (ℕ × ℕ)) (a b : ℕ × ℕ) where
       partner_one xs b a.0 ∙ ap (λ (o : Option ℕ). option_or o (cond (b.0 == a.0) (Some b.1) None)) e
       ∙ ap (λ t. cond t (Some b.1) None) (ne_eqb b.0 a.0 (λ same. apart (sym same)))
 
-  module _ {w : Written} (f : IsFree w xs a) (g : IsFree w (xs ++ a ∷ []) b) where
+  module _ {w : Written} (f : CanFollow w xs a) (g : CanFollow w (xs ++ a ∷ []) b) where
     -- the two have different proposers, and may stand in the other order
     pub free_apart : a.0 ≢ b.0
     free_apart = apart_of g.proposer_free
 
     -- the second may stand first
-    pub free_first : IsFree w xs b
+    pub free_first : CanFollow w xs b
     free_first = record {
       acceptable = g.acceptable;
       proposer_free = nobody_before g.proposer_free;
@@ -146,7 +146,7 @@ module _ (xs : List (ℕ × ℕ)) (a b : ℕ × ℕ) where
     }
 
     -- and the first behind it
-    pub free_second : IsFree w (xs ++ b ∷ []) a
+    pub free_second : CanFollow w (xs ++ b ∷ []) a
     free_second = record {
       acceptable = f.acceptable;
       proposer_free = nobody_then free_apart f.proposer_free;

@@ -11,7 +11,7 @@ use Rattle.sm_lists.proofs.PlaceLemmas.{get_or-place_on}
 use Rattle.sm_instance.specs.Written.{Written, entry, place_of}
 use Rattle.sm_instance.specs.Matching.{held, load, IsMatching}
 use Rattle.sm_instance.proofs.ListLemmas.{row_in_range}
-use Rattle.sm_pairs.specs.Held.{partner_in, paired_place, places_in, times_second, IsFree, AreFree}
+use Rattle.sm_pairs.specs.Held.{partner_in, paired_place, places_in, times_second, CanFollow, EachCanFollow}
 use Rattle.sm_pairs.specs.Holding.{loads_of, CantAdd, Added, AddsPair}
 use Rattle.sm_pairs.specs.PairsKept.{ArePairsHeld, HasJoined, Joins}
 use Rattle.sm_pairs.specs.declared.holding.Holding.{Holding}
@@ -41,7 +41,7 @@ times_second-push pairs p r s =
 
 -- Where each reviewer has as many proposers in the matching of some pairs as it stands in pairs, it has with one more that may
 -- stand behind them.
-counted_later : (w : Written) (before : List (ℕ × ℕ)) (p r : ℕ) → IsFree w before (p, r) → ((s : ℕ) → times_second before s ≡ load w (places_in w before) s)
+counted_later : (w : Written) (before : List (ℕ × ℕ)) (p r : ℕ) → CanFollow w before (p, r) → ((s : ℕ) → times_second before s ≡ load w (places_in w before) s)
     → (s : ℕ) → times_second (before ++ (p, r) ∷ []) s ≡ load w (places_in w (before ++ (p, r) ∷ [])) s
 counted_later w before p r free count s =
     let i = place_of w.proposers p r in
@@ -57,7 +57,7 @@ counted_later w before p r free count s =
     ∙ ap (λ xs. load w xs s) (places_later w before p r free.proposer_free)
 
 -- so each reviewer has as many proposers in the matching of pairs that can be held as it stands in pairs
-pub counted : (w : Written) (pairs : List (ℕ × ℕ)) (k : ℕ) → k ≤ length pairs → AreFree w pairs k → (s : ℕ) → times_second (take k pairs) s ≡ load w (places_in w (take k pairs)) s
+pub counted : (w : Written) (pairs : List (ℕ × ℕ)) (k : ℕ) → k ≤ length pairs → EachCanFollow w pairs k → (s : ℕ) → times_second (take k pairs) s ≡ load w (places_in w (take k pairs)) s
 counted w pairs zero le free s = sym (no_load w (length w.proposers) s)
 counted w pairs (suc k) le free s =
     let pair = pair_at pairs k in
@@ -65,17 +65,17 @@ counted w pairs (suc k) le free s =
     (counted_later w (take k pairs) pair.0 pair.1 (free k (omega arith)) (counted w pairs k (omega (arith, le)) (λ j l. free j (omega (arith, l)))) s)
 
 -- one more of the pairs can be held
-pub free_more : (w : Written) (pairs : List (ℕ × ℕ)) (k : ℕ) → AreFree w pairs k → IsFree w (take k pairs) (pair_at pairs k) → AreFree w pairs (k + 1)
+pub free_more : (w : Written) (pairs : List (ℕ × ℕ)) (k : ℕ) → EachCanFollow w pairs k → CanFollow w (take k pairs) (pair_at pairs k) → EachCanFollow w pairs (k + 1)
 free_more w pairs k below here j l = ⊎_elim
     (λ less. below j less)
-    (λ ge. subst (λ n. IsFree w (take n pairs) (pair_at pairs n)) (let e : k ≡ j = omega (arith, ge, l) in e) here)
+    (λ ge. subst (λ n. CanFollow w (take n pairs) (pair_at pairs n)) (let e : k ≡ j = omega (arith, ge, l) in e) here)
     (cases_lt j k)
 
 module _ {w : Written} {pairs : List (ℕ × ℕ)} {before : Holding} (k : ArePairsHeld w pairs before) (p r : ℕ) (p_in : p < length w.proposers) where
   joined : (after : Holding) → Added w before after p r → HasJoined w pairs (p, r) after
   joined after a =
       let none : partner_in pairs p ≡ None = partner_in-none w pairs p p_in (ap (λ xs. held xs p) (sym k.places) ∙ a.free) in
-      let free : IsFree w pairs (p, r) = record {
+      let free : CanFollow w pairs (p, r) = record {
         acceptable = a.acceptable;
         proposer_free = none;
         place_free = let e = k.seconds r in let room = a.room in omega arith;
@@ -92,7 +92,7 @@ module _ {w : Written} {pairs : List (ℕ × ℕ)} {before : Holding} (k : ArePa
         };
       }
 
-  cant_join : CantAdd w before.matching.places.items p r → ¬ IsFree w pairs (p, r)
+  cant_join : CantAdd w before.matching.places.items p r → ¬ CanFollow w pairs (p, r)
   cant_join (CantAdd.unacceptable h) f = h f.acceptable
   cant_join (CantAdd.taken h) f = let s = some_given w pairs p p_in (subst (λ xs. IsSome (held xs p)) k.places h) in let t = subst IsSome f.proposer_free s in cc
   cant_join (CantAdd.full h) f = let e = k.seconds r in let l = f.place_free in omega arith

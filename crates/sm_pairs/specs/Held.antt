@@ -24,24 +24,24 @@ abbrev pub times_second : List (ℕ × ℕ) → ℕ → ℕ
 times_second pairs b = count_by (λ (pair : ℕ × ℕ). pair.1 == b) pairs
 
 -- a pair may stand behind those before it: it is acceptable, its proposer isn't in one of them, and its reviewer isn't full
-pub record IsFree (w : Written) (before : List (ℕ × ℕ)) (pair : ℕ × ℕ) : Type 0 where
+pub record CanFollow (w : Written) (before : List (ℕ × ℕ)) (pair : ℕ × ℕ) : Type 0 where
   pub acceptable : IsAcceptable w pair.0 pair.1
   pub proposer_free : partner_in before pair.0 ≡ None
   pub place_free : times_second before pair.1 < capacity_of w.reviewers pair.1
 
 -- each of the first n pairs may stand behind those before it
-abbrev pub AreFree : Written → List (ℕ × ℕ) → ℕ → Type 0
-AreFree w pairs n = (k : ℕ) → k < n → IsFree w (take k pairs) (pair_at pairs k)
+abbrev pub EachCanFollow : Written → List (ℕ × ℕ) → ℕ → Type 0
+EachCanFollow w pairs n = (k : ℕ) → k < n → CanFollow w (take k pairs) (pair_at pairs k)
 
 -- all can be held
 abbrev pub CanHold : Written → List (ℕ × ℕ) → Type 0
-CanHold w pairs = AreFree w pairs (length pairs)
+CanHold w pairs = EachCanFollow w pairs (length pairs)
 
 -- the pair of this number is the first that can't be held
 pub record IsFirstBreach (w : Written) (pairs : List (ℕ × ℕ)) (k : ℕ) : Type 0 where
   pub in_range : k < length pairs
-  pub breach : ¬ IsFree w (take k pairs) (pair_at pairs k)
-  pub earlier : AreFree w pairs k
+  pub breach : ¬ CanFollow w (take k pairs) (pair_at pairs k)
+  pub earlier : EachCanFollow w pairs k
 
 -- and no pair blocks their matching
 pub record GiveStable (w : Written) (pairs : List (ℕ × ℕ)) : Type 0 where

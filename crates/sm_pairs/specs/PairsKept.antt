@@ -4,7 +4,7 @@ use Rattle.sm_instance.specs.Written.{Written}
 use Rattle.sm_instance.specs.Matching.{load}
 use Rattle.sm_pairs.specs.Holding.{IsHolding}
 use Rattle.sm_pairs.specs.declared.holding.Holding.{Holding}
-use Rattle.sm_pairs.specs.Held.{places_in, times_second, IsFree}
+use Rattle.sm_pairs.specs.Held.{places_in, times_second, CanFollow}
 
 -- they make this matching
 pub record ArePairsHeld (w : Written) (pairs : List (ℕ × ℕ)) (holding : Holding) : Type 0 where
@@ -14,10 +14,10 @@ pub record ArePairsHeld (w : Written) (pairs : List (ℕ × ℕ)) (holding : Hol
 
 -- one more pair may stand behind them, and is kept too; or it may not
 pub record HasJoined (w : Written) (pairs : List (ℕ × ℕ)) (pair : ℕ × ℕ) (after : Holding) : Type 0 where
-  pub free : IsFree w pairs pair
+  pub free : CanFollow w pairs pair
   pub held : ArePairsHeld w (pairs ++ pair ∷ []) after
 
 -- true says that the pair is kept, and false that it may not stand there
 abbrev pub Joins : Written → List (ℕ × ℕ) → ℕ × ℕ → Holding → Bool → Type 0
 Joins w pairs pair after true = HasJoined w pairs pair after
-Joins w pairs pair after false = ¬ IsFree w pairs pair
+Joins w pairs pair after false = ¬ CanFollow w pairs pair

@@ -11,7 +11,7 @@ use Rattle.sm_market.specs.Matching.{Places, held, standing}
 use Rattle.sm_market.specs.Stable.{IsStable}
 use Rattle.sm_lists.proofs.Counting.{lt_or_le, eq_or_ne}
 use Rattle.sm_market.proofs.Bridge.{stand_of}
-use Rattle.sm_theory.specs.Rotations.{target_at, pair_of}
+use Rattle.sm_theory.specs.Rotations.{pair_of, reviewer_after}
 use Rattle.sm_theory.specs.Chains.{rotation_at, stage, IsCompleteChain, AreNeedsOf}
 use Rattle.sm_theory.specs.ClosedSets.{is_member, IsMember, IsClosed, worst_place, matching_of}
 use Rattle.sm_theory.proofs.Core.Cycle.{Moves}
@@ -19,7 +19,7 @@ use Rattle.sm_theory.proofs.Core.Chain.{upper, up_at, IsOf, way_of}
 use Rattle.sm_theory.proofs.Bridge.Rotation.{cycle_of}
 use Rattle.sm_theory.proofs.Bridge.Chain.{chain_of, closed_of, Decided-member}
 use Rattle.sm_theory.proofs.Bridge.Places.{row_past}
-use Rattle.sm_theory.proofs.Bridge.Sets.{set_is_of}
+use Rattle.sm_theory.proofs.Bridge.Sets.{set_is_of, worst_more}
 use Rattle.sm_theory.proofs.Chains.Rotations.{sets_are_matchings}
 use Rattle.sm_poset.specs.Moves.{IsMove, rotation_of, place_to, AreMovesOf, IsWorstOf, IsWorstPlace, moves_at, AreMoves}
 use Rattle.sm_poset.specs.Posets.{RotationPoset}
@@ -34,7 +34,7 @@ pub record Worst (l : Lists) (rotations : List (List (ℕ × ℕ))) (set : List 
 
 -- where rotation n moves p, if it does
 abbrev pub target_of : Lists → List (List (ℕ × ℕ)) → (p n : ℕ) → ℕ
-target_of l rotations p n = place_of l.proposers p (target_at (rotation_at rotations n) (pair_of (rotation_at rotations n) p))
+target_of l rotations p n = place_of l.proposers p (reviewer_after (rotation_at rotations n) p)
 
 module _ (l : Lists) (rotations : List (List (ℕ × ℕ))) (set : List Bool) (p i : ℕ) where
   place_is : (k n j : ℕ) → k ≡ n → IsMove l rotations p k j → j ≡ target_of l rotations p n
@@ -81,14 +81,14 @@ module _ (l : Lists) (rotations : List (List (ℕ × ℕ))) (set : List Bool) (p
   worst zero = record { low = omega arith; reach = λ k j h. absurd (omega arith); attained = inl refl }
   worst (suc n) = elim (Decided-member set n) [
     | inr out ↦
-        let e : worst_place l rotations set p i (suc n) ≡ worst_place l rotations set p i n = rw (is_false (is_member set n) out) refl in
+        let e : worst_place l rotations set p i (suc n) ≡ worst_place l rotations set p i n = worst_more l rotations set p i n ∙ rw (is_false (is_member set n) out) refl in
         subst (Worst l rotations set p i (suc n)) (sym e) (kept n (worst_place l rotations set p i n) (λ j member v. out member) (worst n))
     | inl member ↦ elim (lt_or_le (pair_of (rotation_at rotations n) p) (length (rotation_at rotations n))) [
       | inr past ↦
-          let e : worst_place l rotations set p i (suc n) ≡ worst_place l rotations set p i n = rw (le-ltb (pair_of (rotation_at rotations n) p) (length (rotation_at rotations n)) past) (cond-and_false (is_member set n) _ _) in
+          let e : worst_place l rotations set p i (suc n) ≡ worst_place l rotations set p i n = worst_more l rotations set p i n ∙ rw (le-ltb (pair_of (rotation_at rotations n) p) (length (rotation_at rotations n)) past) (cond-and_false (is_member set n) _ _) in
           subst (Worst l rotations set p i (suc n)) (sym e) (kept n (worst_place l rotations set p i n) (λ j _ v. let m = v.moved in omega arith) (worst n))
       | inl inside ↦
-          let e : worst_place l rotations set p i (suc n) ≡ max (worst_place l rotations set p i n) (target_of l rotations p n) = rw (lt-ltb (pair_of (rotation_at rotations n) p) (length (rotation_at rotations n)) inside, member) refl in
+          let e : worst_place l rotations set p i (suc n) ≡ max (worst_place l rotations set p i n) (target_of l rotations p n) = worst_more l rotations set p i n ∙ rw (lt-ltb (pair_of (rotation_at rotations n) p) (length (rotation_at rotations n)) inside, member) refl in
           subst (Worst l rotations set p i (suc n)) (sym e) (more n (worst_place l rotations set p i n) member (record { moved = inside; place = refl }) (worst n))
     ]
   ]

@@ -31,7 +31,7 @@ use Rattle.sm_report.specs.Reasons.{reasons, IsReason, name_of_reason}
 use Rattle.sm_report.specs.Sound.{IsOnLeft, IsOnRight, IsSeatNumber, IsSmall, IsLarge, IsRotation, IsLimit, AreRotations}
 use Rattle.sm_report.specs.Texts.{left_name, right_name, seat_text, seat_text_in, vector_text, end_text, SOURCE, SINK}
 use Rattle.sm_report.specs.Vectors.{vector_in, numbers_in, is_comma}
-use Rattle.sm_report.specs.Meanings.{left_in, right_in, at_least, number_within, small_in, large_in, signed_in, rotation_in, rising_above, seat, seat_by, seat_in, numbered_seat_in, is_slash, end_in, reason_in}
+use Rattle.sm_report.specs.Meanings.{left_in, right_in, at_least, number_within, small_in, large_in, signed_in, rotation_in, rising_above, seat, seat_by, seat_in, numbered_seat_in, is_slash, end_in, reason_in, least_limit, limit_named}
 use Rattle.sm_report.proofs.DecimalLemmas.{second_true, digits_of_decimal, number_of-decimal, number_spelt, signed_of-decimal, signed_spelt}
 use Rattle.sm_report.proofs.InverseLemmas.{Inverts, mapped, chained, zipped, text_true, text_same, by_answer, each_inverts}
 use Rattle.sm_report.proofs.FreeLemmas.{is_free, free_of, cut_at_byte, split_joined}
@@ -83,8 +83,8 @@ pub rotation_inverts : Inverts IsRotation decimal rotation_in
 rotation_inverts = in_words (λ n h. record { least = h.0; greatest = h.1 }) (λ n h. (h.least, h.greatest)) (within_inverts 1 4294967294 (omega arith))
 
 -- the reader of limits is inverse to the decimal
-pub limit_inverts : Inverts IsLimit decimal (number_within 1 most_limit)
-limit_inverts = in_words (λ n h. record { least = h.0; greatest = h.1 }) (λ n h. (h.least, h.greatest)) (within_inverts 1 most_limit (omega arith))
+pub limit_inverts : Inverts IsLimit decimal limit_named
+limit_inverts = within_inverts least_limit most_limit (omega arith)
 
 -- the reader of signed numbers is inverse to the signed decimal
 pub signed_inverts : Inverts (λ z. unsigned_abs z ≤ 9223372036854775807) signed_decimal signed_in

@@ -149,7 +149,7 @@ free_vector (n ∷ ns) h = free_joined (decimal n) (map decimal ns) (free_map Is
 
 -- first lines
 free_limit : (n : ℕ) → IsLimit n → in_field (limit_text n) ≡ true
-free_limit n h = free_both (codes "limit=") (decimal n) refl (free_number n (omega (arith, h.greatest)))
+free_limit n h = free_both (codes "limit=") (decimal n) refl (free_number n (omega (arith, h.1)))
 
 free_head : (kind : Kind) (head : HeadData) → IsHeadOf kind head → are_free (fields_of_head head) ≡ true
 free_head kind (HeadData.Solve None) h = refl

@@ -1,10 +1,9 @@
 -- The reader of first lines is inverse to their fields.
-use Rattle.std.proofs.Common.{◌≡◌, ℕ, Bool, true, false, cond, List, [], ◌∷◌, ◌++◌, length, All, take, drop, Option, Some, None, option_map, refl, sym, ap, ◌∙◌, subst, codes}
+use Rattle.std.proofs.Common.{◌≡◌, ℕ, Bool, true, false, cond, List, [], ◌∷◌, ◌++◌, length, All, take, drop, Option, Some, None, option_map, option_and_then, refl, sym, ap, ◌∙◌, subst, codes}
 use Rattle.std.specs.Option.{option_zip}
 use Rattle.std.specs.Str.{bytes_eq}
 use Rattle.std.proofs.lemmas.List.{take-append-drop}
 use Rattle.std.proofs.lemmas.Option.{none-some, same_Some}
-use Rattle.sm_text.specs.Limits.{most_limit}
 use Rattle.sm_instance.specs.declared.kinds.Kind.{Kind}
 use Rattle.sm_instance.specs.declared.kinds.Kind.TheVariants.{Marriage, Hospitals, Roommates}
 use Rattle.sm_instance.specs.declared.kinds.Side.{Side}
@@ -15,7 +14,7 @@ use Rattle.sm_report.specs.Heads.{HeadData}
 use Rattle.sm_report.specs.Sound.{IsSmall, IsLimit, IsHeadOf}
 use Rattle.sm_report.specs.Texts.{vector_text, limit_text, fields_of_head}
 use Rattle.sm_report.specs.Vectors.{vector_in}
-use Rattle.sm_report.specs.Meanings.{look_up, behind_word, limit_in, after_in, sides, measures, bare_heads, bare_head_in, side_in, operand_head_in, list_head_in, head_in, number_within}
+use Rattle.sm_report.specs.Meanings.{look_up, behind_word, limit_named, limit_in, after_in, sides, measures, bare_heads, bare_head_in, side_in, measure_in, operand_head_in, list_head_in, head_in}
 use Rattle.sm_report.proofs.InverseLemmas.{Inverts, mapped, chained, zipped, text_same}
 use Rattle.sm_report.proofs.FieldInverses.{limit_inverts, vector_inverts}
 
@@ -45,8 +44,8 @@ behind_is name text rest e = by_test_of (bytes_eq (take (length name) text) name
 limit_text_inverts : Inverts IsLimit limit_text limit_in
 limit_text_inverts = record {
   again = λ n h. limit_inverts.again n h;
-  sound = λ text n e. let c = chained (number_within 1 most_limit) (behind_word (codes "limit=") text) n e in limit_inverts.sound c.from n c.gives;
-  same = λ text n e. let c = chained (number_within 1 most_limit) (behind_word (codes "limit=") text) n e in
+  sound = λ text n e. let c = chained limit_named (behind_word (codes "limit=") text) n e in limit_inverts.sound c.from n c.gives;
+  same = λ text n e. let c = chained limit_named (behind_word (codes "limit=") text) n e in
       ap (λ t. codes "limit=" ++ t) (limit_inverts.same c.from n c.gives) ∙ behind_is (codes "limit=") text c.from c.is;
 }
 
@@ -78,20 +77,29 @@ bare_read Roommates command head e =
     looked_up (λ name head. IsHeadRead Roommates (name ∷ []) head) ((codes "solve", HeadData.Solve None) ∷ bare_heads)
     (bare _ _ _ refl refl, (bare _ _ _ tt refl, (bare _ _ _ tt refl, (bare _ _ _ tt refl, (bare _ _ _ tt refl, (bare _ _ _ tt refl, (bare _ _ _ tt refl, (bare _ _ _ tt refl, (bare _ _ _ tt refl, (bare _ _ _ tt refl, (bare _ _ _ tt refl, tt))))))))))) command head e
 
+-- with a side
+side_fields : (name : List ℕ) (side : Side) → look_up sides name ≡ Some side → fields_of_head (HeadData.Solve (Some side)) ≡ codes "solve" ∷ (codes "side=" ++ name) ∷ []
+side_fields name side e = looked_up (λ name side. fields_of_head (HeadData.Solve (Some side)) ≡ codes "solve" ∷ (codes "side=" ++ name) ∷ []) sides (refl, (refl, tt)) name side e
+
+side_given : (operand : List ℕ) (side : Side) → option_and_then (look_up sides) (behind_word (codes "side=") operand) ≡ Some side → fields_of_head (HeadData.Solve (Some side)) ≡ codes "solve" ∷ operand ∷ []
+side_given operand side e =
+    let c = chained (look_up sides) (behind_word (codes "side=") operand) side e in
+    side_fields c.from side c.gives ∙ ap (λ t. codes "solve" ∷ t ∷ []) (behind_is (codes "side=") operand c.from c.is)
+
 -- with one operand
 side_read : (kind : Kind) (operand : List ℕ) (side : Side) → side_in kind operand ≡ Some side → IsHeadRead kind (codes "solve" ∷ operand ∷ []) (HeadData.Solve (Some side))
-side_read Marriage operand side e =
-    looked_up (λ name side. IsHeadRead Marriage (codes "solve" ∷ name ∷ []) (HeadData.Solve (Some side))) sides
-    (record { sound = refl; same = refl }, (record { sound = refl; same = refl }, tt)) operand side e
-side_read Hospitals operand side e =
-    looked_up (λ name side. IsHeadRead Hospitals (codes "solve" ∷ name ∷ []) (HeadData.Solve (Some side))) sides
-    (record { sound = refl; same = refl }, (record { sound = refl; same = refl }, tt)) operand side e
+side_read Marriage operand side e = let s = side_given operand side e in record { sound = refl; same = s }
+side_read Hospitals operand side e = let s = side_given operand side e in record { sound = refl; same = s }
 side_read Roommates operand side e = absurd (none-some side e)
 
-measure_read : (kind : Kind) (operand : List ℕ) (by : Measure) → look_up measures operand ≡ Some by → IsHeadRead kind (codes "weight" ∷ operand ∷ []) (HeadData.Weight by)
+-- with a measure
+measure_fields : (name : List ℕ) (by : Measure) → look_up measures name ≡ Some by → fields_of_head (HeadData.Weight by) ≡ codes "weight" ∷ (codes "by=" ++ name) ∷ []
+measure_fields name by e = looked_up (λ name by. fields_of_head (HeadData.Weight by) ≡ codes "weight" ∷ (codes "by=" ++ name) ∷ []) measures (refl, (refl, tt)) name by e
+
+measure_read : (kind : Kind) (operand : List ℕ) (by : Measure) → measure_in operand ≡ Some by → IsHeadRead kind (codes "weight" ∷ operand ∷ []) (HeadData.Weight by)
 measure_read kind operand by e =
-    looked_up (λ name by. IsHeadRead kind (codes "weight" ∷ name ∷ []) (HeadData.Weight by)) measures
-    (record { sound = tt; same = refl }, (record { sound = tt; same = refl }, tt)) operand by e
+    let c = chained (look_up measures) (behind_word (codes "by=") operand) by e in
+    record { sound = tt; same = measure_fields c.from by c.gives ∙ ap (λ t. codes "weight" ∷ t ∷ []) (behind_is (codes "by=") operand c.from c.is) }
 
 -- under the name of the command that was written
 named : (kind : Kind) (command name : List ℕ) (more : List (List ℕ)) (head : HeadData) → bytes_eq command name ≡ true → IsHeadRead kind (name ∷ more) head → IsHeadRead kind (command ∷ more) head
@@ -103,7 +111,7 @@ operand_read kind command operand head e =
     (λ is e. let m = mapped (λ side. HeadData.Solve (Some side)) (side_in kind operand) head e in
     named kind command (codes "solve") (operand ∷ []) head is (subst (IsHeadRead kind (codes "solve" ∷ operand ∷ [])) m.gives (side_read kind operand m.from m.is)))
     (λ _ e. by_test_of (bytes_eq command (codes "weight")) _ _ head e
-    (λ is e. let m = mapped HeadData.Weight (look_up measures operand) head e in
+    (λ is e. let m = mapped HeadData.Weight (measure_in operand) head e in
     named kind command (codes "weight") (operand ∷ []) head is (subst (IsHeadRead kind (codes "weight" ∷ operand ∷ [])) m.gives (measure_read kind operand m.from m.is)))
     (λ _ e. by_test_of (bytes_eq command (codes "list")) _ _ head e
     (λ is e. let m = mapped (HeadData.List None) (limit_in operand) head e in

@@ -248,21 +248,29 @@ no_in fields = option_and_then (λ x. option_zip (small_in x.0) (reason_in x.1))
 abbrev pub behind_word : List ℕ → List ℕ → Option (List ℕ)
 behind_word name text = if bytes_eq (take (length name) text) name then Some (drop (length name) text) else None
 
+-- the least limit on how many are listed
+abbrev pub least_limit : ℕ
+least_limit = 1
+
+-- the limit that a text spells
+abbrev pub limit_named : List ℕ → Option ℕ
+limit_named text = number_within least_limit most_limit text
+
 -- the operand of how many are listed
 abbrev pub limit_in : List ℕ → Option ℕ
-limit_in operand = option_and_then (number_within 1 most_limit) (behind_word (codes "limit=") operand)
+limit_in operand = option_and_then limit_named (behind_word (codes "limit=") operand)
 
 -- the operand of the vector behind which the list begins
 abbrev pub after_in : List ℕ → Option (List ℕ)
 after_in operand = option_and_then vector_in (behind_word (codes "after=") operand)
 
--- the operands that name a side
+-- the sides by their names
 abbrev pub sides : List (List ℕ × Side)
-sides = (codes "side=proposers", Proposers) ∷ (codes "side=reviewers", Reviewers) ∷ []
+sides = (codes "proposers", Proposers) ∷ (codes "reviewers", Reviewers) ∷ []
 
--- the operands that name a measure
+-- by which weights: the ranks of both, or those that are given
 abbrev pub measures : List (List ℕ × Measure)
-measures = (codes "by=ranks", Ranks) ∷ (codes "by=given", Given) ∷ []
+measures = (codes "ranks", Ranks) ∷ (codes "given", Given) ∷ []
 
 -- the commands without an operand
 abbrev pub bare_heads : List (List ℕ × HeadData)
@@ -287,15 +295,19 @@ bare_head_in Roommates command = look_up ((codes "solve", HeadData.Solve None) �
 
 -- the side that an operand names, where the instance has two
 abbrev pub side_in : Kind → List ℕ → Option Side
-side_in Marriage operand = look_up sides operand
-side_in Hospitals operand = look_up sides operand
+side_in Marriage operand = option_and_then (look_up sides) (behind_word (codes "side=") operand)
+side_in Hospitals operand = option_and_then (look_up sides) (behind_word (codes "side=") operand)
 side_in Roommates operand = None
+
+-- the measure that an operand names
+abbrev pub measure_in : List ℕ → Option Measure
+measure_in operand = option_and_then (look_up measures) (behind_word (codes "by=") operand)
 
 -- a command with one operand
 abbrev pub operand_head_in : Kind → List ℕ → List ℕ → Option HeadData
 operand_head_in kind command operand =
     if bytes_eq command (codes "solve") then option_map (λ side. HeadData.Solve (Some side)) (side_in kind operand) else
-    (if bytes_eq command (codes "weight") then option_map HeadData.Weight (look_up measures operand) else
+    (if bytes_eq command (codes "weight") then option_map HeadData.Weight (measure_in operand) else
     (if bytes_eq command (codes "list") then option_map (HeadData.List None) (limit_in operand) else
     (if bytes_eq command (codes "survey") then option_map HeadData.Survey (limit_in operand) else None)))
 

@@ -10,6 +10,7 @@ use Rattle.sm_instance.specs.declared.kinds.Kind.TheVariants.{Marriage, Hospital
 use Rattle.sm_instance.specs.declared.kinds.Side.{Side}
 use Rattle.sm_report.specs.declared.lines.Seat.{Seat}
 use Rattle.sm_report.specs.Heads.{HeadData}
+use Rattle.sm_report.specs.Meanings.{least_limit}
 use Rattle.sm_report.specs.Lines.{LineData}
 use Rattle.sm_report.specs.Reasons.{IsReason}
 
@@ -84,9 +85,8 @@ pub record AreRotations (ns : List ℕ) : Type 0 where
   pub rising : IsStrictlyIncreasing ns
 
 -- a limit on how many are listed
-pub record IsLimit (n : ℕ) : Type 0 where
-  pub least : 1 ≤ n
-  pub greatest : n ≤ most_limit
+abbrev pub IsLimit : ℕ → Type 0
+IsLimit n = (least_limit ≤ n) × (n ≤ most_limit)
 
 -- `solve` names a side exactly where the instance has two
 abbrev pub NamesSide : Kind → Option Side → Type 0

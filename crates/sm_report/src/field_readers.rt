@@ -14,8 +14,10 @@ use sm_text::number;
 /// The greatest number of a rotation.
 pub(crate) const MOST_ROTATION: u32 = u32::MAX - 1;
 
-/// The number that a text spells, from a least to a greatest one.
-pub(crate) fn number_within(text: &[u8], least: u32, most: u32) -> Option<u32>
+/// The number that a text spells in decimal, from a least to a greatest one. `None` exactly where the text spells none of these.
+///
+/// It takes time in the length of the text, and no memory.
+pub fn number_within(text: &[u8], least: u32, most: u32) -> Option<u32>
     ensures { result ≡ number_within least most text.now }
 {
     let n = number(text, u64::from(most))?;

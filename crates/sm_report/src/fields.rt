@@ -65,7 +65,7 @@ pub(crate) fn put_field(
     requires { IsFieldSound input.now field }
     ensures { PutsText into.old into.new (32 ∷ text_of_field input.now field.entry) result }
 {
-    into.put_bytes(b" ")?;
+    into.put_byte(b' ')?;
     put_field_text(into, input, field)
 }
 
@@ -110,7 +110,7 @@ fn put_seat(into: &mut LineWriter, input: &Input, seat: Seat) -> Result<(), Allo
 fn put_seat_number(into: &mut LineWriter, number: u32) -> Result<(), AllocError>
     ensures { PutsText into.old into.new (codes "/" ++ decimal number) result }
 {
-    into.put_bytes(b"/")?;
+    into.put_byte(b'/')?;
     into.put_number(u64::from(number))
 }
 
@@ -119,8 +119,8 @@ fn put_flow_end(into: &mut LineWriter, end: u32) -> Result<(), AllocError>
     ensures { PutsText into.old into.new (end_text end) result }
 {
     match end {
-        SOURCE => into.put_bytes(b"S"),
-        SINK => into.put_bytes(b"T"),
+        SOURCE => into.put_byte(b'S'),
+        SINK => into.put_byte(b'T'),
         rotation => into.put_number(u64::from(rotation)),
     }
 }
@@ -130,7 +130,7 @@ fn put_vector(into: &mut LineWriter, vector: &[u32]) -> Result<(), AllocError>
     ensures { PutsText into.old into.new (vector_text vector.now) result }
 {
     let [first, more @ ..] = vector else {
-        return into.put_bytes(b"-");
+        return into.put_byte(b'-');
     };
     into.put_number(u64::from(*first))?;
     for number in more {
@@ -143,6 +143,6 @@ fn put_vector(into: &mut LineWriter, vector: &[u32]) -> Result<(), AllocError>
 fn put_behind_comma(into: &mut LineWriter, number: u32) -> Result<(), AllocError>
     ensures { PutsText into.old into.new (44 ∷ decimal number) result }
 {
-    into.put_bytes(b",")?;
+    into.put_byte(b',')?;
     into.put_number(u64::from(number))
 }

@@ -2,19 +2,15 @@
 
 ghost use Rattle.std.specs.Prelude.{◌≡◌, IfOk, MatchOption, option_map};
 ghost use Rattle.sm_report.specs.Heads.{head_of};
-ghost use Rattle.sm_report.specs.Meanings.{look_up, behind_word, limit_in, after_in, sides, measures, bare_head_in, side_in, operand_head_in, list_head_in, head_in};
+ghost use Rattle.sm_report.specs.Meanings.{behind_word, limit_in, after_in, bare_head_in, side_in, measure_in, operand_head_in, list_head_in, head_in};
 ghost use Rattle.sm_text.specs.Slices.{texts_of};
 
-use crate::field_readers::number_within;
 use crate::fields_of::is;
 use crate::heads::Head;
+use crate::values::{limit_named, measure_named, side_named};
 use crate::vectors::vector_in;
 use sm_instance::{Kind, Measure, Side};
-use sm_text::MOST_LIMIT;
 use std::alloc::{AllocError, Global};
-
-/// The least limit.
-const LEAST_LIMIT: u32 = 1;
 
 /// What the fields behind `answer` say: a command with its operands.
 #[tactic(auto, unfolding(crate::specs::Meanings::head_in))]
@@ -106,34 +102,23 @@ fn side_in(kind: Kind, operand: &[u8]) -> Option<Side>
     ensures { result ≡ side_in kind operand.now }
 {
     if kind == Kind::Roommates {
-        None
-    } else if is(operand, b"side=proposers") {
-        Some(Side::Proposers)
-    } else if is(operand, b"side=reviewers") {
-        Some(Side::Reviewers)
-    } else {
-        None
+        return None;
     }
+    side_named(behind(operand, b"side=")?)
 }
 
 /// The measure that an operand of `weight` names.
 fn measure_in(operand: &[u8]) -> Option<Measure>
-    ensures { result ≡ look_up measures operand.now }
+    ensures { result ≡ measure_in operand.now }
 {
-    if is(operand, b"by=ranks") {
-        Some(Measure::Ranks)
-    } else if is(operand, b"by=given") {
-        Some(Measure::Given)
-    } else {
-        None
-    }
+    measure_named(behind(operand, b"by=")?)
 }
 
 /// The limit that an operand gives.
 fn limit_in(operand: &[u8]) -> Option<u32>
     ensures { result ≡ limit_in operand.now }
 {
-    number_within(behind(operand, b"limit=")?, LEAST_LIMIT, MOST_LIMIT)
+    limit_named(behind(operand, b"limit=")?)
 }
 
 /// The vector that an operand gives.

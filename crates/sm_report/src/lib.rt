@@ -21,13 +21,16 @@ mod list_readers;
 mod printing;
 mod reading;
 mod reasons;
+mod values;
 mod vectors;
 pub mod witnesses;
 
 pub use faults::LineFault;
+pub use field_readers::number_within;
 pub use heads::Head;
 pub use keywords::{Keyword, keyword_of};
 pub use lines::{Line, Seat};
 pub use printing::{put_line, put_text};
 pub use reading::read_line;
+pub use values::{limit_named, measure_named, side_named};
 pub use vectors::vector;

@@ -38,7 +38,7 @@ pub fn put_line(into: &mut LineWriter, input: &Input, line: &Line) -> Result<(),
         ++ LF ∷ []) result }
 {
     put_text(into, input, line)?;
-    into.put_bytes(b"\n")
+    into.put_byte(b'\n')
 }
 
 /// Puts a word and fields, with a space between each two of them.

@@ -17,7 +17,7 @@ use Rattle.sm_market.specs.Limits.{IsWithinLimits}
 use Rattle.sm_seats.specs.Mutual.{mutual_row}
 use Rattle.sm_seats.specs.SeatMarket.{seat_count, seats_before, named_seats, seats_of, row_of_seat, seat_market}
 use Rattle.sm_seats.specs.SeatEntries.{seat_entries, seat_entries_before, AreFewSeats, IsFirstTooMany, first_too_many}
-use Rattle.sm_seats.proofs.PieceLemmas.{range_more}
+use Rattle.sm_lists.proofs.RangeLemmas.{range_more}
 use Rattle.sm_seats.proofs.SeatLemmas.{seats_before_more, seat_count-le-row, length-reviewers, length-names}
 use Rattle.sm_seats.proofs.MarketLaws.{length-proposers, is_market}
 use Rattle.sm_seats.proofs.EntryLemmas.{entries-le}

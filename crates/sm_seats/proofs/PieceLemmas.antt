@@ -1,5 +1,5 @@
 -- Where the items of pieces stand in the list that is joined from these.
-use Rattle.std.proofs.Common.{◌≡◌, ℕ, zero, suc, ◌+◌, ◌-◌, ◌<◌, ◌≤◌, ◌++◌, List, [], ◌∷◌, length, take, drop, get_or, refl, ap, ◌∙◌, arith, inl, inr}
+use Rattle.std.proofs.Common.{◌≡◌, ℕ, zero, suc, ◌+◌, ◌-◌, ◌<◌, ◌≤◌, List, [], ◌∷◌, length, take, drop, get_or, refl, ap, ◌∙◌, arith, inl, inr}
 use Rattle.std.specs.List.{flat_map, range_with_len}
 use Rattle.std.proofs.lemmas.Bool.{cases_lt}
 use Rattle.std.proofs.lemmas.List.{length-append}
@@ -38,14 +38,6 @@ piece_end f (x ∷ xs) (suc i) (suc j) e less on =
     let long' = length-append (f x) (flat_map f (take j xs)) in
     let deep = piece_end f xs i j e (omega arith) (omega arith) in
     omega arith
-
-range_last : (a n j : ℕ) → a + n ≡ j → range_with_len a (suc n) ≡ range_with_len a n ++ j ∷ []
-range_last a zero j e = let same : a ≡ j = omega arith in ap (λ k. k ∷ []) same
-range_last a (suc n) j e = ap (λ l. a ∷ l) (range_last (a + 1) n j (omega arith))
-
--- one more number of a range
-pub range_more : (a n j : ℕ) → a + n ≡ j → range_with_len a (n + 1) ≡ range_with_len a n ++ j ∷ []
-range_more a n j e = let on : n + 1 ≡ suc n = omega arith in ap (range_with_len a) on ∙ range_last a n j e
 
 -- the first numbers of a range
 pub take-range : (a n k : ℕ) → k ≤ n → take k (range_with_len a n) ≡ range_with_len a k

@@ -11,7 +11,8 @@ use Rattle.sm_instance.specs.Written.{AgentData, Written, no_agent, capacity_of}
 use Rattle.sm_market.specs.Lists.{row}
 use Rattle.sm_seats.specs.Mutual.{mutual_row}
 use Rattle.sm_seats.specs.SeatMarket.{seat_count, seats_before, named_seats, seats_of, seat_market, row_of_seat}
-use Rattle.sm_seats.proofs.PieceLemmas.{range_more, take-range}
+use Rattle.sm_lists.proofs.RangeLemmas.{range_more}
+use Rattle.sm_seats.proofs.PieceLemmas.{take-range}
 
 -- the k-th seat of r, from 0 on
 pub record IsSeatOf (w : Written) (seat r k : ℕ) : Type 0 where

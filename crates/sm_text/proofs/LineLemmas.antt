@@ -1,10 +1,10 @@
 -- The first line of a list of bytes, and what it holds.
-use Rattle.std.proofs.Common.{zero, suc, ◌≡◌, ◌≢◌, ℕ, ◌+◌, ◌-◌, ◌<◌, ◌≤◌, ◌==◌, cond, eqb, Bool, true, false, List, [], ◌∷◌, length, get_or, take, drop, refl, sym, ap, ◌∙◌, arith}
-use Rattle.std.proofs.lemmas.List.{take-take, drop-drop, length-drop}
+use Rattle.std.proofs.Common.{zero, suc, ◌≡◌, ◌≢◌, ℕ, ◌+◌, ◌-◌, ◌<◌, ◌≤◌, ◌==◌, cond, eqb, Bool, true, false, List, [], ◌∷◌, length, map, get_or, take, drop, refl, sym, ap, ◌∙◌, arith}
+use Rattle.std.proofs.lemmas.List.{take-take, drop-drop, drop_all, length-drop}
 use Rattle.std.specs.List.{onto_first}
 use Rattle.std.proofs.lemmas.Bool.Decides.{nat_tests}
 use Rattle.std.proofs.lemmas.Bool.{eq-eqb, ne_eqb}
-use Rattle.sm_text.specs.Lines.{LF, first_line, without_last, content, lines, IsLineAt}
+use Rattle.sm_text.specs.Lines.{LF, first_line, without_last, content, lines, texts_from, IsLineAt}
 use Rattle.sm_text.specs.declared.lines.LineSpan.{LineSpan}
 
 -- the line ends at the first LF, or with the text
@@ -143,3 +143,15 @@ lines_drop bytes from within =
     let rest = drop from bytes in
     lines_first rest (omega (arith, length-drop from bytes, within))
     ∙ ap (λ t. first_line rest ∷ lines t) (drop-drop (length (first_line rest)) from bytes)
+
+-- one line more of a text
+pub texts_from-step : (bytes : List ℕ) (at : ℕ) (span : LineSpan) → IsLineAt bytes at span → texts_from bytes at ≡ take (span.stop - span.start) (drop span.start bytes) ∷ texts_from bytes span.next
+texts_from-step bytes at span h = ap (map content) h.leads ∙ ap (λ t. t ∷ texts_from bytes span.next) (sym (line_text bytes at span h))
+
+-- and behind it there is one line less
+pub fewer_lines : (bytes : List ℕ) (at : ℕ) (span : LineSpan) → IsLineAt bytes at span → length (lines (drop at bytes)) ≡ length (lines (drop span.next bytes)) + 1
+fewer_lines bytes at span h = let e : length (lines (drop at bytes)) ≡ length (first_line (drop at bytes) ∷ lines (drop span.next bytes)) = ap length h.leads in omega (arith, e)
+
+-- past the end there are none
+pub texts_from-over : (bytes : List ℕ) (at : ℕ) → length bytes ≤ at → texts_from bytes at ≡ []
+texts_from-over bytes at le = ap (λ rest. map content (lines rest)) (drop_all at bytes le)

@@ -1,5 +1,5 @@
 -- The lines of an input.
-use Rattle.std.specs.Prelude.{◌≡◌, ℕ, ◌+◌, ◌<◌, ◌==◌, if◌then◌else◌, List, [], ◌∷◌, length, drop}
+use Rattle.std.specs.Prelude.{◌≡◌, ℕ, ◌+◌, ◌<◌, ◌==◌, if◌then◌else◌, List, [], ◌∷◌, length, map, drop}
 use Rattle.std.specs.List.{onto_first}
 use Rattle.sm_text.specs.declared.lines.LineSpan.{LineSpan}
 
@@ -30,6 +30,10 @@ content line = without_last CR (without_last LF line)
 abbrev pub lines : List ℕ → List (List ℕ)
 lines [] = []
 lines (b ∷ bytes) = if b == LF then (b ∷ []) ∷ lines bytes else onto_first b (lines bytes)
+
+-- what stands on the lines from a place on, without their ends
+abbrev pub texts_from : List ℕ → ℕ → List (List ℕ)
+texts_from bytes from = map content (lines (drop from bytes))
 
 -- the span is that of the line that begins at a place of an input: of the first line from there on, behind which stand those
 -- from the next place on

@@ -1,6 +1,6 @@
 //! A writer of lines.
 
-ghost use Rattle.std.specs.Prelude.{◌≡◌, ◌≤◌, ◌<◌, ◌++◌, [], length, drop, decimal, IfOk};
+ghost use Rattle.std.specs.Prelude.{◌≡◌, ◌≤◌, ◌<◌, ◌++◌, ◌∷◌, [], length, drop, decimal, IfOk};
 
 use std::alloc::{AllocError, Global};
 use std::marker::Model;
@@ -77,6 +77,19 @@ impl LineWriter {
         self.bytes.extend_from_slice(piece)
     }
 
+    /// Puts one byte behind what it holds. Takes constant time; where the room has to grow, what [`LineWriter::put_bytes`]
+    /// takes.
+    ///
+    /// # Errors
+    ///
+    /// As [`LineWriter::put_bytes`] for the byte.
+    pub fn put_byte(&mut self, byte: u8) -> Result<(), AllocError>
+        ensures { PutsPiece self.old self.new (byte ∷ []) result }
+    {
+        self.bytes.push(byte)?;
+        Ok(())
+    }
+
     /// Puts a number in decimal behind what it holds. Takes what [`LineWriter::put_bytes`] takes.
     ///
     /// # Errors
@@ -85,6 +98,9 @@ impl LineWriter {
     pub fn put_number(&mut self, value: u64) -> Result<(), AllocError>
         ensures { PutsPiece self.old self.new (decimal value) result }
     {
+        if value < 10 {
+            return self.put_byte(b'0' + value as u8);
+        }
         let mut digits = [0u8; MOST_DIGITS];
         let start = write_digits(value, &mut digits);
         self.put_bytes(&digits[start..])

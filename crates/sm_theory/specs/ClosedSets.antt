@@ -1,11 +1,12 @@
 -- Closed sets of the rotations of a chain, and their matchings. A set has one item for each rotation.
-use Rattle.std.specs.Prelude.{◌≡◌, ℕ, zero, suc, ◌<◌, nat_lt, if◌then◌else◌, Bool, true, false, ◌&&◌, List, map, length, slice_index_or, max}
+use Rattle.std.specs.Prelude.{◌≡◌, ℕ, ◌<◌, Bool, true, false, ◌&&◌, List, map, filter, fold, length, slice_index_or, max}
+use Rattle.std.specs.List.{range_with_len}
 use Rattle.std.specs.Option.{option_map}
 use Rattle.sm_market.specs.Lists.{Lists, place_of}
 use Rattle.sm_market.specs.Matching.{Places, held}
 use Rattle.sm_market.specs.Stable.{IsStable}
 use Rattle.sm_theory.specs.Lattice.{agents, with_proposers}
-use Rattle.sm_theory.specs.Rotations.{target_at, pair_of}
+use Rattle.sm_theory.specs.Rotations.{is_moved, reviewer_after}
 use Rattle.sm_theory.specs.Chains.{rotation_at, IsNeededBy}
 
 -- whether rotation k is in a set
@@ -23,12 +24,9 @@ pub record IsClosed (l : Lists) (rotations : List (List (ℕ × ℕ))) (set : Li
 
 -- the worst for p among the place i and the places to which members of the set among the first n rotations move p
 abbrev pub worst_place : Lists → List (List (ℕ × ℕ)) → List Bool → (p i n : ℕ) → ℕ
-worst_place l rotations set p i zero = i
-worst_place l rotations set p i (suc n) =
-    let rotation = rotation_at rotations n in
-    let pair = pair_of rotation p in
-    let before = worst_place l rotations set p i n in
-    if is_member set n && nat_lt pair (length rotation) then max before (place_of l.proposers p (target_at rotation pair)) else before
+worst_place l rotations set p i n =
+    fold max i (map (λ k. place_of l.proposers p (reviewer_after (rotation_at rotations k) p))
+    (filter (λ k. is_member set k && is_moved (rotation_at rotations k) p) (range_with_len 0 n)))
 
 -- the matching of a set: a proposer that is unmatched at first stays so, and each other one has the reviewer that it
 -- likes least among its first and those to which members move it (Gusfield and Irving 1989, theorem 2.5.7)

@@ -1,5 +1,5 @@
 -- Successors, rotations, and their elimination. A rotation is a cycle of pairs of a proposer and a reviewer.
-use Rattle.std.specs.Prelude.{◌≡◌, ◌≢◌, ℕ, ◌<◌, ◌≤◌, List, Some, IsSome, length}
+use Rattle.std.specs.Prelude.{◌≡◌, ◌≢◌, ℕ, ◌<◌, ◌≤◌, nat_lt, Bool, List, Some, IsSome, length}
 use Rattle.sm_market.specs.Lists.{Lists, row, entry, place_of}
 use Rattle.sm_market.specs.Matching.{Places, held, standing}
 use Rattle.sm_theory.specs.Lattice.{with_proposers}
@@ -62,6 +62,10 @@ eliminated l m rotation = with_proposers l (places_after l m.proposers rotation)
 -- a rotation moves p, from this reviewer to that one
 abbrev pub DoesMove : List (ℕ × ℕ) → ℕ → Type 0
 DoesMove rotation p = pair_of rotation p < length rotation
+
+-- whether a rotation moves p
+abbrev pub is_moved : List (ℕ × ℕ) → ℕ → Bool
+is_moved rotation p = nat_lt (pair_of rotation p) (length rotation)
 
 -- the reviewer from which a rotation moves p
 abbrev pub reviewer_before : List (ℕ × ℕ) → ℕ → ℕ

@@ -2,6 +2,7 @@
 use Rattle.std.proofs.Common.{◌≡◌, ◌∙◌, ℕ, ◌<◌, arith, true, All, List, [], ◌∷◌, length, Option, None, Ok, refl, ap}
 use Rattle.std.specs.Option.{option_map}
 use Rattle.std.proofs.lemmas.List.Elements.{All-cons}
+use Rattle.sm_text.specs.Lines.{texts_from}
 use Rattle.sm_answer.specs.Printing.{IsShown}
 use Rattle.sm_answer.proofs.AnswerLemmas.{one_all}
 use Rattle.sm_text.specs.declared.refusal.RefusalKind.TheVariants.{TooManySeats, BadAnswer}
@@ -15,7 +16,6 @@ use Rattle.sm_report.specs.Lines.{LineData}
 use Rattle.sm_report.specs.Sound.{IsLineOf}
 use Rattle.sm_seats.proofs.LimitLaws.{first_too_many-none}
 use Rattle.sm_cert.specs.Checking.{HasFewSeats, HasTooManyAt}
-use Rattle.sm_answer_given.specs.GivenText.{texts_from}
 use Rattle.sm_check_clauses.specs.Judging.{IsJudged, IsBadAnswerAt}
 use Rattle.sm_check_clauses.specs.declared.verdicts.Verdict.{Verdict}
 use Rattle.sm_tally.specs.Fold.{Shown}

@@ -1,6 +1,7 @@
 -- What may come of words and an input: the status and the lines that are written. This is what the program promises.
 use Rattle.std.specs.Prelude.{◌≡◌, ℕ, Bool, true, false, List, [], ◌∷◌, ◌⊎◌, length, Option, None, unwrap_or, Result, Ok, Err, codes}
 use Rattle.serde_json.specs.Written.{compact_text}
+use Rattle.sm_text.specs.Lines.{texts_from}
 use Rattle.sm_answer.specs.Printing.{IsShown}
 use Rattle.sm_instance.specs.Written.{AgentData, Written}
 use Rattle.sm_instance.specs.declared.inputs.Input.{Input}
@@ -31,7 +32,7 @@ use Rattle.sm_answer_list.specs.ListAnswer.{IsCursor, IsListAnswer}
 use Rattle.sm_answer_pairs.specs.PairsAnswer.{IsPairsAnswer}
 use Rattle.sm_answer_pairs.specs.RegretAnswer.{IsRegretAnswer}
 use Rattle.sm_theory.specs.declared.choice.Choice.TheVariants.{Better, Worse}
-use Rattle.sm_answer_given.specs.GivenText.{texts_from, IsBadGivenAt}
+use Rattle.sm_answer_given.specs.GivenText.{IsBadGivenAt}
 use Rattle.sm_answer_given.specs.Chosen.{IsChosenAnswer}
 use Rattle.sm_answer_given.specs.Refusing.{AreUnstable}
 use Rattle.sm_answer_given.specs.declared.faults.Which.{Which}

@@ -2,10 +2,9 @@
 
 ghost use Rattle.std.specs.Prelude.{◌≡◌, ◌≤◌, ◌<◌, ◌+◌, ◌^◌, length, drop, IfOk, IfErr};
 ghost use Rattle.sm_instance.specs.declared.inputs.Input.TheVariants.{Two};
-ghost use Rattle.sm_text.specs.Lines.{lines};
+ghost use Rattle.sm_text.specs.Lines.{lines, texts_from};
 ghost use Rattle.sm_report.specs.Sound.{ArePair};
 ghost use Rattle.sm_answer_given.specs.Given.{AreStableGiven};
-ghost use Rattle.sm_answer_given.specs.GivenText.{texts_from};
 ghost use Rattle.sm_top.specs.Outcome.{IsGivenRefusal, which_name, flaw_name, unstable_fields};
 ghost use Rattle.sm_top.specs.Stops.{StopsBy};
 ghost use Rattle.sm_top.specs.Texts.{refusal_fields};

@@ -3,8 +3,7 @@
 ghost use Rattle.std.specs.Prelude.{◌≡◌, ◌≤◌, ◌<◌, ◌+◌, ◌^◌, length, drop, IfOk, IfErr, OnErr};
 ghost use Rattle.sm_answer.specs.Printing.{IsShown};
 ghost use Rattle.sm_instance.specs.declared.inputs.Input.TheVariants.{Two};
-ghost use Rattle.sm_text.specs.Lines.{lines};
-ghost use Rattle.sm_answer_given.specs.GivenText.{texts_from};
+ghost use Rattle.sm_text.specs.Lines.{lines, texts_from};
 ghost use Rattle.sm_answer_given.specs.Chosen.{IsChosenAnswer};
 ghost use Rattle.sm_top.specs.Outcome.{IsGivenRefusal};
 ghost use Rattle.sm_top.specs.Stops.{StopsBy};

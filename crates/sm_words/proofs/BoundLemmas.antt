@@ -3,13 +3,13 @@ use Rattle.std.proofs.Common.{◌≡◌, ℕ, ◌+◌, ◌≤◌, ◌<◌, ◌^�
 use Rattle.std.specs.Option.{option_and_then, option_map_or}
 use Rattle.std.proofs.lemmas.Bool.{ltb-false}
 use Rattle.std.proofs.lemmas.Option.{none-some, same_Some}
-use Rattle.sm_text.specs.Limits.{most_limit}
 use Rattle.sm_make.specs.Made.{most_size}
-use Rattle.sm_report.specs.Meanings.{look_up}
+use Rattle.sm_report.specs.Meanings.{look_up, sides, measures, limit_named}
+use Rattle.sm_report.specs.Sound.{IsLimit}
 use Rattle.sm_report.specs.Vectors.{vector_in}
 use Rattle.sm_report.proofs.DecimalLemmas.{number_spelt}
 use Rattle.sm_report.proofs.InverseLemmas.{mapped, chained}
-use Rattle.sm_report.proofs.FieldInverses.{within_inverts}
+use Rattle.sm_report.proofs.FieldInverses.{limit_inverts, within_inverts}
 use Rattle.sm_words.specs.declared.operands.Command.{Command}
 use Rattle.sm_words.specs.declared.operands.Command.TheVariants as command
 use Rattle.sm_words.specs.declared.operands.Operand.{Operand}
@@ -17,8 +17,8 @@ use Rattle.sm_words.specs.declared.operands.Operand.TheVariants as operand
 use Rattle.sm_words.specs.declared.jobs.Form.{Form}
 use Rattle.sm_words.specs.declared.jobs.Job.{Job}
 use Rattle.sm_words.specs.declared.jobs.WordsFault.{WordsFault}
-use Rattle.sm_words.specs.Jobs.{JobData, Weight, Make, job_of, asked_of, least_limit, IsLimit, least_size, greatest_size, most_seed, IsInBounds}
-use Rattle.sm_words.specs.Tables.{operands_of, sides, measures, shapes, shows, forms, ValueData, OfSide, OfAfter, OfLimit, OfBy, OfShape, OfSize, OfSeed, OfShow, OfForm, limit_named, size_named, seed_named, value_named}
+use Rattle.sm_words.specs.Jobs.{JobData, Weight, Make, job_of, asked_of, least_size, greatest_size, most_seed, IsInBounds}
+use Rattle.sm_words.specs.Tables.{operands_of, shapes, shows, forms, ValueData, OfSide, OfAfter, OfLimit, OfBy, OfShape, OfSize, OfSeed, OfShow, OfForm, size_named, seed_named, value_named}
 use Rattle.sm_words.specs.Operands.{GivenData, nothing_given, once, with_value, with_word, has_name, name_in, text_in, value_in}
 use Rattle.sm_words.specs.Words.{read_operands, job_for, or_missing, is_too_large, word_of_size, or_too_large, asked, usual_limit, usual_show, usual_form}
 
@@ -77,7 +77,7 @@ abbrev IsGivenInBounds : GivenData → Type 0
 IsGivenInBounds g = IfSome g.limit IsLimit × IfSome g.size IsSomeSize × IfSome g.seed IsSeed
 
 limit_named_in : (text : List ℕ) (n : ℕ) → limit_named text ≡ Some n → IsLimit n
-limit_named_in text n e = (within_inverts least_limit most_limit (omega arith)).sound text n e
+limit_named_in text n e = limit_inverts.sound text n e
 
 size_named_in : (text : List ℕ) (n : ℕ) → size_named text ≡ Some n → IsSomeSize n
 size_named_in text n e = ((within_inverts least_size greatest_size (omega arith)).sound text n e).0

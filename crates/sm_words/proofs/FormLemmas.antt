@@ -2,7 +2,7 @@
 use Rattle.std.proofs.Common.{◌≡◌, ℕ, ◌+◌, Bool, true, false, cond, List, [], ◌∷◌, Option, Some, None, Result, Ok, Err, IfOk, option_map, unwrap_or, refl, sym, ap, ◌∙◌, subst}
 use Rattle.std.specs.Option.{option_and_then, option_map_or}
 use Rattle.std.proofs.lemmas.Option.{none-some, same_Some}
-use Rattle.sm_report.specs.Meanings.{look_up}
+use Rattle.sm_report.specs.Meanings.{look_up, sides, measures, limit_named}
 use Rattle.sm_report.specs.Vectors.{vector_in}
 use Rattle.sm_report.proofs.HeadInverses.{EachRow, looked_up}
 use Rattle.sm_report.proofs.InverseLemmas.{mapped, chained}
@@ -14,7 +14,7 @@ use Rattle.sm_words.specs.declared.operands.Command.TheVariants as command
 use Rattle.sm_words.specs.declared.operands.Operand.{Operand}
 use Rattle.sm_words.specs.declared.operands.Operand.TheVariants as operand
 use Rattle.sm_words.specs.Jobs.{JobData, Weight, Make, job_of, asked_of, takes_form, IsFormFor}
-use Rattle.sm_words.specs.Tables.{operands_of, sides, measures, shapes, shows, ValueData, OfSide, OfAfter, OfLimit, OfBy, OfShape, OfSize, OfSeed, OfShow, OfForm, limit_named, size_named, seed_named, value_named}
+use Rattle.sm_words.specs.Tables.{operands_of, shapes, shows, ValueData, OfSide, OfAfter, OfLimit, OfBy, OfShape, OfSize, OfSeed, OfShow, OfForm, size_named, seed_named, value_named}
 use Rattle.sm_words.specs.Operands.{GivenData, nothing_given, once, with_value, with_word, has_name, name_in, text_in, value_in}
 use Rattle.sm_words.specs.Words.{read_operands, job_for, asked, usual_show, usual_form}
 use Rattle.sm_words.proofs.BoundLemmas.{mapped_to, asked_from}

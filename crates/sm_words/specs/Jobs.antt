@@ -1,11 +1,11 @@
 -- What words may ask for, as plain data.
 use Rattle.std.specs.Prelude.{◌≡◌, ◌≤◌, ◌<◌, ◌^◌, ℕ, Bool, true, false, List as Vector, Option}
 use Rattle.std.specs.Option.{option_map}
-use Rattle.sm_text.specs.Limits.{most_limit}
 use Rattle.sm_instance.specs.declared.kinds.Measure.{Measure}
 use Rattle.sm_instance.specs.declared.kinds.Side.{Side}
 use Rattle.sm_make.specs.declared.shape.Shape.{Shape}
 use Rattle.sm_make.specs.Made.{most_size}
+use Rattle.sm_report.specs.Sound.{IsLimit}
 use Rattle.sm_words.specs.declared.jobs.Form.{Form}
 use Rattle.sm_words.specs.declared.jobs.Form.TheVariants.{Text}
 use Rattle.sm_words.specs.declared.jobs.Job.{Job}
@@ -75,14 +75,6 @@ takes_form Export = false
 -- the form is `Text` for each other job
 abbrev pub IsFormFor : JobData → Form → Type 0
 IsFormFor job form = takes_form job ≡ false → form ≡ Text
-
--- a limit lies in its bounds
-abbrev pub least_limit : ℕ
-least_limit = 1
-
--- a limit within its bounds
-abbrev pub IsLimit : ℕ → Type 0
-IsLimit limit = (least_limit ≤ limit) × (limit ≤ most_limit)
 
 -- the least size, and the greatest of any shape; each shape has a greatest one of its own
 abbrev pub least_size : ℕ

@@ -1,16 +1,13 @@
 -- The tables of the command line: its commands, the operands of each, and the values of each operand.
 use Rattle.std.specs.Prelude.{List, [], ◌∷◌, ℕ, Bool, true, false, codes, Option, option_map}
-use Rattle.sm_text.specs.Limits.{most_limit}
 use Rattle.sm_instance.specs.declared.kinds.Measure.{Measure}
-use Rattle.sm_instance.specs.declared.kinds.Measure.TheVariants.{Ranks, Given}
 use Rattle.sm_instance.specs.declared.kinds.Side.{Side}
-use Rattle.sm_instance.specs.declared.kinds.Side.TheVariants.{Proposers, Reviewers}
 use Rattle.sm_text.specs.Numbers.{number_of}
 use Rattle.sm_make.specs.declared.shape.Shape.{Shape}
 use Rattle.sm_make.specs.declared.shape.Shape.TheVariants.{Copies, Cycle, Random, Hospitals, Rooms}
-use Rattle.sm_report.specs.Meanings.{look_up, number_within}
+use Rattle.sm_report.specs.Meanings.{look_up, number_within, sides, measures, limit_named}
 use Rattle.sm_report.specs.Vectors.{vector_in}
-use Rattle.sm_words.specs.Jobs.{least_limit, least_size, greatest_size, most_seed}
+use Rattle.sm_words.specs.Jobs.{least_size, greatest_size, most_seed}
 use Rattle.sm_words.specs.declared.jobs.Form.{Form}
 use Rattle.sm_words.specs.declared.jobs.Form.TheVariants.{Text, Json}
 use Rattle.sm_words.specs.declared.operands.Command.{Command}
@@ -65,14 +62,6 @@ operands_of command.Median = []
 operands_of command.Route = []
 operands_of command.Export = []
 
--- the sides by their names
-abbrev pub sides : List (List ℕ × Side)
-sides = (codes "proposers", Proposers) ∷ (codes "reviewers", Reviewers) ∷ []
-
--- by which weights: the ranks of both, or those that are given
-abbrev pub measures : List (List ℕ × Measure)
-measures = (codes "ranks", Ranks) ∷ (codes "given", Given) ∷ []
-
 -- the shapes by their names
 abbrev pub shapes : List (List ℕ × Shape)
 shapes =
@@ -114,10 +103,6 @@ value_of (value.OfSize size) = OfSize size
 value_of (value.OfSeed seed) = OfSeed seed
 value_of (value.OfShow summary) = OfShow summary
 value_of (value.OfForm form) = OfForm form
-
--- the numbers that a text may spell
-abbrev pub limit_named : List ℕ → Option ℕ
-limit_named text = number_within least_limit most_limit text
 
 -- a size that a text spells
 abbrev pub size_named : List ℕ → Option ℕ

@@ -1,19 +1,16 @@
 //! The commands and their operands: a row for each name, and a reader for each value.
 
 ghost use Rattle.std.specs.Prelude.{◌≡◌, Some, None, IfOk, option_map, if◌then◌else◌};
-ghost use Rattle.sm_report.specs.Meanings.{look_up, number_within};
-ghost use Rattle.sm_words.specs.Tables.{commands, operands_of, sides, measures, shapes, shows, forms, ValueData, value_of, value_named, limit_named, size_named, seed_named};
+ghost use Rattle.sm_report.specs.Meanings.{look_up};
+ghost use Rattle.sm_words.specs.Tables.{commands, operands_of, shapes, shows, forms, ValueData, value_of, value_named, size_named, seed_named};
 ghost use Rattle.sm_words.specs.Operands.{given_of, once, with_value, with_word, nothing_given};
 
 use crate::jobs::Form;
 use sm_instance::{Measure, Side};
 use sm_make::Shape;
-use sm_report::vector;
-use sm_text::{MOST_LIMIT, number};
+use sm_report::{limit_named, measure_named, number_within, side_named, vector};
+use sm_text::number;
 use std::alloc::{AllocError, Global};
-
-/// The least limit.
-const LEAST_LIMIT: u32 = 1;
 
 /// The least size, and the greatest of any shape.
 const LEAST_SIZE: u32 = 1;
@@ -196,44 +193,15 @@ fn value_named(alloc: Global, operand: Operand, text: &str) -> Result<Option<Val
     ensures { IfOk result (λ found. value_named operand text.now ≡ option_map value_of found) }
 {
     match operand {
-        Operand::Side => Ok(side_named(text).map(Value::OfSide)),
+        Operand::Side => Ok(side_named(text.as_bytes()).map(Value::OfSide)),
         Operand::After => Ok(vector(alloc, text)?.map(Value::OfAfter)),
-        Operand::Limit => Ok(limit_named(text).map(Value::OfLimit)),
-        Operand::By => Ok(measure_named(text).map(Value::OfBy)),
+        Operand::Limit => Ok(limit_named(text.as_bytes()).map(Value::OfLimit)),
+        Operand::By => Ok(measure_named(text.as_bytes()).map(Value::OfBy)),
         Operand::Shape => Ok(shape_named(text).map(Value::OfShape)),
         Operand::Size => Ok(size_named(text).map(Value::OfSize)),
         Operand::Seed => Ok(seed_named(text).map(Value::OfSeed)),
         Operand::Show => Ok(show_named(text).map(Value::OfShow)),
         Operand::Form => Ok(form_named(text).map(Value::OfForm)),
-    }
-}
-
-/// The side of this name.
-fn side_named(name: &str) -> Option<Side>
-    ensures { result ≡ look_up sides name.now }
-{
-    match name {
-        "proposers" => Some(Side::Proposers),
-        "reviewers" => Some(Side::Reviewers),
-        _ => None,
-    }
-}
-
-/// The limit that a text spells.
-fn limit_named(text: &str) -> Option<u32>
-    ensures { result ≡ limit_named text.now }
-{
-    number_within(text, LEAST_LIMIT, MOST_LIMIT)
-}
-
-/// The measure of this name.
-fn measure_named(name: &str) -> Option<Measure>
-    ensures { result ≡ look_up measures name.now }
-{
-    match name {
-        "ranks" => Some(Measure::Ranks),
-        "given" => Some(Measure::Given),
-        _ => None,
     }
 }
 
@@ -255,7 +223,7 @@ fn shape_named(name: &str) -> Option<Shape>
 fn size_named(text: &str) -> Option<u32>
     ensures { result ≡ size_named text.now }
 {
-    number_within(text, LEAST_SIZE, GREATEST_SIZE)
+    number_within(text.as_bytes(), LEAST_SIZE, GREATEST_SIZE)
 }
 
 /// The seed that a text spells.
@@ -285,17 +253,6 @@ fn form_named(name: &str) -> Option<Form>
         "json" => Some(Form::Json),
         _ => None,
     }
-}
-
-/// The number that a text spells, from a least to a greatest one.
-fn number_within(text: &str, least: u32, most: u32) -> Option<u32>
-    ensures { result ≡ number_within least most text.now }
-{
-    let n = number(text.as_bytes(), u64::from(most))?;
-    if n < u64::from(least) {
-        return None;
-    }
-    Some(n as u32)
 }
 
 /// Keeps a value, unless its operand stands already.

@@ -1,15 +1,16 @@
 -- The matching of a set over lists is the one of Core.
-use Rattle.std.proofs.Common.{◌≡◌, ℕ, zero, suc, ◌<◌, ◌≤◌, ◌⊎◌, inl, inr, arith, refl, sym, ap, ◌∙◌, List, length, Option, Some, unwrap_or, Bool, true, false, lt-ltb, le-ltb, max}
+use Rattle.std.proofs.Common.{◌≡◌, ℕ, zero, suc, ◌<◌, ◌≤◌, ◌⊎◌, inl, inr, arith, refl, sym, ap, ◌∙◌, List, length, Option, Some, unwrap_or, Bool, true, false, lt-ltb, le-ltb, max, ◌&&◌, if◌then◌else◌}
 use Rattle.std.specs.Option.{option_map}
 use Rattle.std.proofs.lemmas.List.FromFn.{length-map-range_with_len}
 use Rattle.std.proofs.lemmas.Option.{same_Some, none-some}
+use Rattle.sm_lists.proofs.RangeLemmas.{greatest_more}
 use Rattle.sm_lists.proofs.ResultLemmas.{cond-and_false}
 use Rattle.sm_market.specs.Lists.{Lists, row, place_of, IsMarket}
 use Rattle.sm_market.specs.Matching.{Places, held, standing}
 use Rattle.sm_market.specs.Stable.{IsStable}
 use Rattle.sm_lists.proofs.Counting.{lt_or_le, eq_or_ne, Decided}
 use Rattle.sm_market.proofs.Bridge.{sides_of, stand_of, fit_of, stable_of, held_cases}
-use Rattle.sm_theory.specs.Rotations.{proposer_at, target_at, pair_of}
+use Rattle.sm_theory.specs.Rotations.{proposer_at, target_at, pair_of, is_moved, reviewer_after}
 use Rattle.sm_theory.specs.Chains.{rotation_at, stage, IsCompleteChain}
 use Rattle.sm_theory.specs.ClosedSets.{is_member, IsMember, IsClosed, worst_place, matching_of}
 use Rattle.sm_theory.proofs.Core.Cycle.{Moves, moves_or_not}
@@ -19,6 +20,11 @@ use Rattle.sm_theory.proofs.Core.Seats.{same_stable}
 use Rattle.sm_theory.proofs.Bridge.Places.{held_map, held_map_past, standing_map, standing_map_past, row_past, seats_with, stable_with}
 use Rattle.sm_theory.proofs.Bridge.Rotation.{cycle_of, pair_at_is, no_pair}
 use Rattle.sm_theory.proofs.Bridge.Chain.{chain_of, stage_stable, closed_of, Decided-member}
+
+-- the worst place with one more rotation
+pub worst_more : (l : Lists) (rotations : List (List (ℕ × ℕ))) (set : List Bool) (p i n : ℕ) → worst_place l rotations set p i (suc n)
+    ≡ (if is_member set n && is_moved (rotation_at rotations n) p then max (worst_place l rotations set p i n) (place_of l.proposers p (reviewer_after (rotation_at rotations n) p)) else worst_place l rotations set p i n)
+worst_more l rotations set p = greatest_more (λ k. is_member set k && is_moved (rotation_at rotations k) p) (λ k. place_of l.proposers p (reviewer_after (rotation_at rotations k) p))
 
 -- in the matching of a set, who is unmatched at first stays so, and each other one has its worst place
 abbrev Cases : Lists → Places → List (List (ℕ × ℕ)) → List Bool → ℕ → Type 0
@@ -33,15 +39,16 @@ module _ {l : Lists} (h : IsMarket l) {first : Places} {rotations : List (List (
   worst_in p i n g member w =
       let pair : pair_of (rotation_at rotations n) p ≡ w.at = rw w.holds at (pair_at_is h (stage_stable h chain n (omega arith)).matching (chain.exposed n g) w.at w.below) in
       let there : standing l.proposers (stage l first rotations (suc n)).proposers p ≡ place_of l.proposers p (target_at (rotation_at rotations n) w.at) = rw w.holds at (((chain_of h chain).onward n g).moved w.at w.below) in
-      rw (pair, lt-ltb w.at (length (rotation_at rotations n)) w.below, member) (ap (max (worst_place l rotations set p i n)) (sym there))
+      worst_more l rotations set p i n ∙ rw (pair, lt-ltb w.at (length (rotation_at rotations n)) w.below, member) (ap (max (worst_place l rotations set p i n)) (sym there))
 
   worst_out : (p i n : ℕ) → n < length rotations → ((j : ℕ) → j < length (rotation_at rotations n) → proposer_at (rotation_at rotations n) j ≡ p → ⊥) → worst_place l rotations set p i (suc n) ≡ worst_place l rotations set p i n
   worst_out p i n g none =
-      rw (no_pair h (stage_stable h chain n (omega arith)).matching (chain.exposed n g) p none, le-ltb (length (rotation_at rotations n)) (length (rotation_at rotations n)) (omega arith))
+      worst_more l rotations set p i n
+      ∙ rw (no_pair h (stage_stable h chain n (omega arith)).matching (chain.exposed n g) p none, le-ltb (length (rotation_at rotations n)) (length (rotation_at rotations n)) (omega arith))
       (cond-and_false (is_member set n) _ _)
 
   worst_not : (p i n : ℕ) → (IsMember set n → ⊥) → worst_place l rotations set p i (suc n) ≡ worst_place l rotations set p i n
-  worst_not p i n out = let e : is_member set n ≡ false = is_false (is_member set n) out in rw e refl
+  worst_not p i n out = let e : is_member set n ≡ false = is_false (is_member set n) out in worst_more l rotations set p i n ∙ rw e refl
     where
       is_false : (b : Bool) → (b ≡ true → ⊥) → b ≡ false
       is_false true out = absurd (out refl)

@@ -1,8 +1,9 @@
 use Rattle.std.proofs.Common.{ap, length, ◌+◌, ◌∙◌, ◌≡◌, subst, arith}
+use Rattle.sm_text.specs.Lines.{texts_from}
 use Rattle.sm_instance.specs.declared.inputs.Input.{Input}
 use Rattle.sm_instance.proofs.FaultLemmas.{on_err}
 use Rattle.sm_answer_given.specs.declared.faults.Which.TheVariants.{Left, Right}
-use Rattle.sm_answer_given.specs.GivenText.{texts_from, AreGiven}
+use Rattle.sm_answer_given.specs.GivenText.{AreGiven}
 use Rattle.sm_pairs.specs.Held.{places_in, CanHold}
 use Rattle.sm_answer_given.specs.Refusing.{IsHoldFault}
 use Rattle.sm_answer_given.specs.Refusing.{IsGivenFault, IsBlocking}

@@ -1,5 +1,5 @@
 use Rattle.std.proofs.Common.{take}
-use Rattle.sm_pairs.specs.Held.{AreFree}
+use Rattle.sm_pairs.specs.Held.{EachCanFollow}
 use Rattle.sm_pairs.specs.PairsKept.{ArePairsHeld}
 use Rattle.sm_answer_given.proofs.holding.hold.Given as goal
 
@@ -7,5 +7,5 @@ use Rattle.sm_answer_given.proofs.holding.hold.Given as goal
 abbrev pub invariant-loop-at : goal.invariant-loop-at
 invariant-loop-at l = record {
   kept : ArePairsHeld l.instance (take l.at l.pairs) l.holding;
-  free : AreFree l.instance l.pairs l.at;
+  free : EachCanFollow l.instance l.pairs l.at;
 }

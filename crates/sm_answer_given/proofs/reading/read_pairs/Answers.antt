@@ -1,8 +1,8 @@
 use Rattle.std.proofs.Common.{◌-◌, ap, arith, subst, ⊎_elim, drop, take, length}
-use Rattle.sm_text.proofs.LineLemmas.{line_places}
-use Rattle.sm_answer_given.specs.GivenText.{texts_from}
+use Rattle.sm_text.specs.Lines.{texts_from}
+use Rattle.sm_text.proofs.LineLemmas.{line_places, texts_from-step, fewer_lines, texts_from-over}
 use Rattle.sm_answer_given.specs.Taking.{end_so_far, lines_so_far, TakesText}
-use Rattle.sm_answer_given.proofs.ReadingLemmas.{AreTaken, taken_more, taken_long, texts_from-step, fewer_lines, texts_from-over, bad_line, missing_end, all_given}
+use Rattle.sm_answer_given.proofs.ReadingLemmas.{AreTaken, taken_more, taken_long, bad_line, missing_end, all_given}
 use Rattle.sm_answer_given.proofs.reading.read_pairs.Goals as goal
 
 pub slice_bounds-take_text-end : goal.slice_bounds-take_text-end

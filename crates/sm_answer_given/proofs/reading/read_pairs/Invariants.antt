@@ -1,6 +1,5 @@
 use Rattle.std.proofs.Common.{◌≡◌, ◌+◌, ◌<◌, ◌^◌, length, drop}
-use Rattle.sm_text.specs.Lines.{lines}
-use Rattle.sm_answer_given.specs.GivenText.{texts_from}
+use Rattle.sm_text.specs.Lines.{lines, texts_from}
 use Rattle.sm_answer_given.specs.Taking.{AreInTurn, lines_so_far}
 use Rattle.sm_answer_given.proofs.ReadingLemmas.{AreTaken}
 use Rattle.sm_answer_given.proofs.reading.read_pairs.Given as goal

@@ -1,8 +1,9 @@
 use Rattle.std.proofs.Common.{◌-◌, ◌∙◌, sym, ap, arith, subst, drop, take, length}
-use Rattle.sm_text.proofs.LineLemmas.{line_places}
+use Rattle.sm_text.specs.Lines.{texts_from}
+use Rattle.sm_text.proofs.LineLemmas.{line_places, texts_from-step, fewer_lines, texts_from-over}
 use Rattle.sm_check_forms.specs.Taking.{TakesText}
 use Rattle.sm_check_forms.specs.Forms.{IsMisplaced}
-use Rattle.sm_check_forms.proofs.TakingLemmas.{AreTaken, taken_none, taken_more, taken_long, texts_from, texts_from-step, fewer_lines, texts_from-over, bad_line, missing_end}
+use Rattle.sm_check_forms.proofs.TakingLemmas.{AreTaken, taken_none, taken_more, taken_long, bad_line, missing_end}
 use Rattle.sm_check_forms.proofs.reading.read_answer.Goals as goal
 
 pub lines-init : goal.lines-init

@@ -1,7 +1,7 @@
 use Rattle.std.proofs.Common.{◌≡◌, ◌+◌, ◌<◌, ◌^◌, length, drop}
-use Rattle.sm_text.specs.Lines.{lines}
+use Rattle.sm_text.specs.Lines.{lines, texts_from}
 use Rattle.sm_check_forms.specs.Taking.{lines_in}
-use Rattle.sm_check_forms.proofs.TakingLemmas.{AreTaken, texts_from}
+use Rattle.sm_check_forms.proofs.TakingLemmas.{AreTaken}
 use Rattle.sm_check_forms.proofs.reading.read_answer.Given as goal
 
 -- the texts so far are those of the lines so far

@@ -1,5 +1,5 @@
 use Rattle.std.proofs.Common.{ℕ, ◌++◌, ◌∷◌, [], List, sym, ap, ◌∙◌, arith}
-use Rattle.sm_seats.proofs.PieceLemmas.{range_more}
+use Rattle.sm_lists.proofs.RangeLemmas.{range_more}
 use Rattle.sm_seats.proofs.counts.numbers_below.Goals as goal
 
 pub loop-number-preserved : goal.loop-number-preserved

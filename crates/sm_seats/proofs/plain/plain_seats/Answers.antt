@@ -2,7 +2,7 @@ use Rattle.std.proofs.Common.{ℕ, ◌<◌, ◌∷◌, [], List, length, sym, ap
 use Rattle.std.specs.List.{flat_map, range_with_len}
 use Rattle.sm_seats.specs.SeatMarket.{named_seats}
 use Rattle.sm_seats.specs.Tables.{lists_for, crosses_for}
-use Rattle.sm_seats.proofs.PieceLemmas.{range_more}
+use Rattle.sm_lists.proofs.RangeLemmas.{range_more}
 use Rattle.sm_seats.proofs.RowLemmas.{piece_pushed}
 use Rattle.sm_seats.proofs.PlainLemmas.{named_is, lists_for_is, crosses_for_is}
 use Rattle.sm_seats.proofs.plain.plain_seats.Goals as goal

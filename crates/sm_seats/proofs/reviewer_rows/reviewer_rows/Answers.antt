@@ -5,7 +5,7 @@ use Rattle.sm_seats.specs.Mutual.{mutual_row}
 use Rattle.sm_seats.specs.SeatMarket.{seats_before, named_seats}
 use Rattle.sm_seats.specs.Tables.{lists_for, crosses_for, seat_crosses}
 use Rattle.sm_seats.specs.Counted.{acceptable_at}
-use Rattle.sm_seats.proofs.PieceLemmas.{range_more}
+use Rattle.sm_lists.proofs.RangeLemmas.{range_more}
 use Rattle.sm_seats.proofs.TableLemmas.{seats_read, seat_count-le}
 use Rattle.sm_seats.proofs.RowLemmas.{piece_pushed}
 use Rattle.sm_seats.proofs.CrossRows.{raised_crosses}

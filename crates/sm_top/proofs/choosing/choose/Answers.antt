@@ -1,4 +1,4 @@
-use Rattle.sm_answer_given.specs.GivenText.{texts_from}
+use Rattle.sm_text.specs.Lines.{texts_from}
 use Rattle.sm_top.specs.declared.status.Status.TheVariants.{Done}
 use Rattle.sm_top.proofs.WritingLemmas.{wrote_given}
 use Rattle.sm_top.proofs.choosing.choose.Goals as goal

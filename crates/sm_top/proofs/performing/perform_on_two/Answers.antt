@@ -1,4 +1,5 @@
 use Rattle.std.proofs.Common.{[], ap, sym, subst}
+use Rattle.sm_text.specs.Lines.{texts_from}
 use Rattle.sm_words.specs.Takes.{takes_text}
 use Rattle.sm_reader.specs.InstanceText.{read_of}
 use Rattle.std.proofs.lemmas.Result.{IfOk-weaker}
@@ -9,7 +10,6 @@ use Rattle.sm_answer_list.specs.ListAnswer.{IsListAnswer}
 use Rattle.sm_answer_list.specs.Started.{cursor_in}
 use Rattle.sm_answer_pairs.specs.PairsAnswer.{IsPairsAnswer}
 use Rattle.sm_theory.specs.declared.choice.Choice.TheVariants.{Better, Worse}
-use Rattle.sm_answer_given.specs.GivenText.{texts_from}
 use Rattle.sm_answer_given.specs.Chosen.{IsChosenAnswer}
 use Rattle.sm_answer_route.specs.RouteAnswer.{IsRouteAnswer}
 use Rattle.sm_instance.specs.declared.inputs.Input.{Input}
