@@ -9,6 +9,8 @@ use Rattle.std.proofs.lemmas.List.{get_or-map, get_or_past, get_or_default, leng
 use Rattle.std.proofs.lemmas.List.FromFn.{length-map-range_with_len, get_or-map-range_with_len}
 use Rattle.std.proofs.lemmas.List.Elements.{All-append, All-cons, All-map}
 use Rattle.std.proofs.lemmas.Grind.{get_or_default_zero}
+use Rattle.sm_rotations.specs.declared.order.ChainWithNeeds.{ChainWithNeeds}
+use Rattle.sm_answer_rotations.specs.Found.{AreRotationsOf}
 use Rattle.sm_instance.specs.Written.{Written}
 use Rattle.sm_instance.specs.Sound.{IsInstance}
 use Rattle.sm_instance.specs.declared.inputs.Input.{Input}
@@ -230,7 +232,7 @@ none_given s rotations needs halfway k n over =
 
 -- Counting.
 
-rotations_long : (values : List Rotation) → length (rotations_of values) ≡ length values
+pub rotations_long : (values : List Rotation) → length (rotations_of values) ≡ length values
 rotations_long values = length-map values (λ (r : Rotation). r.pairs.items)
 
 rows_long : (vectors : List (Vec ℕ Global)) → length (rows_of vectors) ≡ length vectors
@@ -265,6 +267,20 @@ are_shown poset l first rotations needs e ef er p n =
       of = λ k here. subst (λ (r : List (List (ℕ × ℕ))). AreNeedsOf l r k (row needs k)) (sym er)
           (subst (λ (m : Lists). AreNeedsOf m poset.rotations k (row needs k)) e (n.each k (omega (arith, here, long))));
     }
+
+-- so are those that were found
+pub shown_of_found : (l : Lists) (found : ChainWithNeeds) (values : List Rotation) (vectors : List (Vec ℕ Global)) → values ≡ found.chain.rotations.items → vectors ≡ found.needs.items
+    → AreRotationsOf l found → AreShown l found.chain.first.places (rotations_of values) (rows_of vectors)
+shown_of_found l found values vectors same same' r =
+    let rotations = rotations_of found.chain.rotations.items in
+    let x : AreShown l found.chain.first.places rotations (rows_of found.needs.items) = record {
+      printed = r.printed;
+      few = omega (arith, r.few, rotations_long found.chain.rotations.items);
+      one_each = r.needs.one_each;
+      of = r.needs.each;
+    } in
+    subst (λ (v : List Rotation). AreShown l found.chain.first.places (rotations_of v) (rows_of vectors)) (sym same)
+    (subst (λ (v : List (Vec ℕ Global)). AreShown l found.chain.first.places rotations (rows_of v)) (sym same') x)
 
 -- the values are as many
 pub values_few : (l : Lists) (first : Places) (values : List Rotation) (needs : List (List ℕ)) → AreShown l first (rotations_of values) needs → length values < 2 ^ 24

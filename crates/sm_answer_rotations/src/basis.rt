@@ -1,10 +1,11 @@
 //! What commands stand on.
 
 ghost use Rattle.std.specs.Prelude.{◌≡◌, IfOk};
+ghost use Rattle.sm_answer_rotations.specs.Found.{AreRotationsOf};
 
 use sm_accept::proposer_best;
 use sm_poset::Poset;
-use sm_rotations::chain_with_needs;
+use sm_rotations::{ChainWithNeeds, chain_with_needs};
 use sm_seats::Seats;
 use std::alloc::{AllocError, Global};
 
@@ -16,9 +17,25 @@ pub struct Basis {
     pub poset: Poset,
 }
 
+/// The complete chain of rotations of the market of an instance's seats, with what each one needs. Takes the time and the memory
+/// of [`chain_with_needs`].
+///
+/// # Errors
+///
+/// `AllocError` where memory ran out, and only then.
+pub fn find_rotations(alloc: Global, seats: &Seats) -> Result<ChainWithNeeds, AllocError>
+    ensures { IfOk result (λ found. AreRotationsOf seats.now.market found) }
+{
+    let market = seats.market();
+    prove!(market.proposers() < 1 << 24);
+    let first = proposer_best(alloc, market)?;
+    let found = chain_with_needs(alloc, market, &first)?;
+    Ok(found)
+}
+
 impl Basis {
     /// The basis of an instance with these seats, whose market it keeps too: nothing of it is copied. Takes the time and the
-    /// memory of [`chain_with_needs`] and [`Poset::with_needs`].
+    /// memory of [`find_rotations`] and [`Poset::with_needs`].
     ///
     /// # Errors
     ///
@@ -26,9 +43,7 @@ impl Basis {
     pub fn of(alloc: Global, seats: &Seats) -> Result<Basis, AllocError>
         ensures { IfOk result (λ basis. basis.poset.lists ≡ seats.now.market) }
     {
-        let market = seats.market();
-        let first = proposer_best(alloc, market)?;
-        let found = chain_with_needs(alloc, market, &first)?;
+        let found = find_rotations(alloc, seats)?;
         Ok(Basis {
             poset: Poset::with_needs(alloc, seats.shared_market()?, found)?,
         })

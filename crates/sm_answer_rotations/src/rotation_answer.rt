@@ -6,14 +6,15 @@ ghost use Rattle.sm_answer.specs.Printing.{IsShown};
 ghost use Rattle.sm_instance.specs.declared.inputs.Input.TheVariants.{Two};
 ghost use Rattle.sm_seats.specs.Seating.{seating_of};
 ghost use Rattle.sm_seats.specs.Correspondence.{IsSeating};
+ghost use Rattle.sm_answer_rotations.specs.Found.{AreRotationsOf};
 ghost use Rattle.sm_answer_rotations.specs.RotationAnswer.{IsRotationAnswer};
 
-use crate::basis::Basis;
 use crate::rotation_lines::{RotationLines, Rotations};
 use crate::seat_lines::SeatLines;
 use sm_answer::{Each, Lines, One, Printed, Then};
 use sm_instance::{Input, Instance, Side};
 use sm_report::{Head, Line};
+use sm_rotations::ChainWithNeeds;
 use sm_seats::Seats;
 
 /// The lines of the answer of `rotations`.
@@ -28,20 +29,18 @@ pub fn rotation_answer_lines<'a>(
     input: &'a Input,
     instance: &Instance,
     seats: &'a Seats,
-    basis: &'a Basis,
+    found: &'a ChainWithNeeds,
 ) -> RotationAnswerLines<'a>
     requires input { input.now ≡ Two instance.now }
     requires seats { seats.now ≡ seating_of instance.now }
     requires seating { IsSeating instance.now seats.now }
-    requires market { basis.now.poset.lists ≡ seats.now.market }
+    requires rotations { AreRotationsOf seats.now.market found.now }
     ensures right { (lines : List (List ℕ)) → ⟦<RotationAnswerLines<'a> as Lines>⟧.gives result
         lines
         → IsShown input.now (IsRotationAnswer instance.now) lines }
     ensures some { HasRest (⟦<RotationAnswerLines<'a> as Lines>⟧.gives result) }
 {
     let _count = instance.proposer_count();
-    let chain = basis.poset.chain();
-    let needs = basis.poset.all_needs();
     Printed {
         input,
         answer: Then {
@@ -51,7 +50,7 @@ pub fn rotation_answer_lines<'a>(
                     items: SeatLines {
                         side: Side::Proposers,
                         seats,
-                        pairing: &chain.first,
+                        pairing: &found.chain.first,
                     },
                     next: 0,
                 },
@@ -59,8 +58,8 @@ pub fn rotation_answer_lines<'a>(
                     first: RotationLines {
                         rows: Rotations {
                             seats,
-                            rotations: &chain.rotations,
-                            needs,
+                            rotations: &found.chain.rotations,
+                            needs: &found.needs,
                         },
                         next: 0,
                         halfway: false,

@@ -43,7 +43,7 @@ use sm_answer_roommates::{
     RoomSolution, couple_lines, find_rest, find_roommates, party_lines, rest_lines, room_list_lines,
 };
 use sm_answer_rotations::{
-    Basis, find_reduction, none_lines, reduction_lines, rotation_answer_lines,
+    find_reduction, find_rotations, none_lines, reduction_lines, rotation_answer_lines,
 };
 use sm_answer_route::{find_route, route_lines};
 use sm_answer_solve::{find_solution, solution_lines};
@@ -374,8 +374,8 @@ fn show_rotations<K: Sink>(
     ensures later { K.faults sink.old ≤ K.faults sink.new }
 {
     let seats = Seats::counted(alloc, given.instance, &given.counts)?;
-    let basis = Basis::of(alloc, &seats)?;
-    let lines = rotation_answer_lines(&given.read.input, given.instance, &seats, &basis);
+    let found = find_rotations(alloc, &seats)?;
+    let lines = rotation_answer_lines(&given.read.input, given.instance, &seats, &found);
     Ok(write(alloc, sink, given.form, Status::Done, lines))
 }
 
