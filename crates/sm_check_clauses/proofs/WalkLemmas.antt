@@ -14,10 +14,10 @@ use Rattle.sm_theory.specs.Chains.{stage, rotation_at, AreNeedsOf}
 use Rattle.sm_theory.proofs.Bridge.Chain.{stage_before, rotation_at-push_before, rotation_at-push_new}
 use Rattle.sm_check_net.specs.declared.moves.Move.{Move}
 use Rattle.sm_check_net.specs.Moves.{moves_in, row_of_moves, AreRotationMoves, AreOnLists}
-use Rattle.sm_check_decide.specs.Exposure.{IsSearchAt}
+use Rattle.sm_successors.specs.Search.{IsSearchAt}
 use Rattle.sm_check_decide.specs.Noting.{IsNotesFor, AreNoted}
 use Rattle.sm_check_decide.proofs.NotingLemmas.{eliminable_more}
-use Rattle.sm_check_decide.proofs.SearchLemmas.{search_goes_on}
+use Rattle.sm_successors.proofs.SearchLemmas.{search_goes_on}
 use Rattle.sm_seats.specs.SeatMarket.{seat_market}
 use Rattle.sm_report.specs.declared.lines.Seat.{Seat}
 use Rattle.sm_report.specs.declared.lines.Line.{Line}

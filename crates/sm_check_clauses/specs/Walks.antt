@@ -8,7 +8,7 @@ use Rattle.sm_market.specs.Pairing.{IsPairingOf}
 use Rattle.sm_market.specs.Stable.{IsStable, IsProposersBest}
 use Rattle.sm_theory.specs.Rotations.{IsNothingExposed}
 use Rattle.sm_theory.specs.Chains.{stage}
-use Rattle.sm_check_decide.specs.Exposure.{IsSearchAt}
+use Rattle.sm_successors.specs.Search.{IsSearchAt}
 use Rattle.sm_check_decide.specs.Noting.{IsNotesFor, AreNoted}
 use Rattle.sm_check_net.specs.declared.moves.Move.{Move}
 use Rattle.sm_check_net.specs.Moves.{moves_in, row_of_moves, AreMovesByRotation, AreOnLists}

@@ -17,10 +17,10 @@ pub record IsSuccessorPath (l : Lists) (m : Places) (items : List ℕ) (start p 
   pub next : (k : ℕ) → start ≤ k → k + 1 < length items → IsNext l m (slice_index items k) (slice_index items (k + 1))
   pub last : (k : ℕ) → start ≤ k → k + 1 ≡ length items → IsNext l m (slice_index items k) q
 
--- so many proposers at the front have no successor left, for which the greatest number stands
+-- so many proposers at the front have no successor left, for which no number below the greatest one stands
 pub record AreFinished (count : ℕ) (from : List ℕ) : Type 0 where
   pub few : count ≤ length from
-  pub none_left : (p : ℕ) → p < count → slice_index from p ≡ 2 ^ 32 - 1
+  pub none_left : (p : ℕ) → p < count → 2 ^ 32 - 1 ≤ slice_index from p
 
 -- whoever is finished stays so
 abbrev pub StayFinished : (before after : List ℕ) → Type 0

@@ -3,7 +3,6 @@ pub mod TrailsKept
 pub mod Exposure
 pub mod ExposureKept
 pub mod Noting
-pub mod Laws
 pub mod Witnesses
 pub mod Accepted
 pub mod Rooms

@@ -1,16 +1,18 @@
 //! Which rotations are exposed at a pairing, by the plain definition.
 
-ghost use Rattle.std.specs.Prelude.{◌≡◌, ℕ, ◌<◌, ◌≤◌, ◌↔◌, length, true, false, IsTrue, IfOk, MatchOption, slice_index};
-ghost use Rattle.sm_market.specs.Lists.{row, IsMarket};
-ghost use Rattle.sm_market.specs.Matching.{Places, standing};
+ghost use Rattle.std.specs.Prelude.{◌≡◌, ℕ, ◌<◌, ◌≤◌, ◌↔◌, length, true, false, IsTrue, IfOk, slice_index};
+ghost use Rattle.sm_market.specs.Lists.{IsMarket};
+ghost use Rattle.sm_market.specs.Matching.{Places};
 ghost use Rattle.sm_market.specs.Pairing.{IsPairingOf};
-ghost use Rattle.sm_theory.specs.Rotations.{WouldTake, IsSuccessor, IsNext, IsNoneBelow, IsNothingExposed, IsLowestExposed};
-ghost use Rattle.sm_check_decide.specs.Exposure.{IsSearchAt, IsSafe};
+ghost use Rattle.sm_theory.specs.Rotations.{IsNoneBelow, IsNothingExposed, IsLowestExposed};
+ghost use Rattle.sm_successors.specs.Search.{IsSearchAt};
+ghost use Rattle.sm_check_decide.specs.Exposure.{IsSafe};
 ghost use Rattle.sm_check_decide.specs.ExposureKept.{AreSafe, AreFinished, StayFinished};
 
 use crate::trail::Trail;
 use sm_market::{Market, Pairing};
-use sm_theory::{Rotation, is_exposed, would_take};
+use sm_successors::next_proposer;
+use sm_theory::{Rotation, is_exposed};
 use std::alloc::{AllocError, Global};
 use std::marker::Model;
 
@@ -205,52 +207,4 @@ fn none_is_below(trail: &Trail, from: u32, bound: u32) -> bool
         }
     }
     true
-}
-
-/// The proposer that has `p`'s successor, which is looked for from where it was looked for before.
-fn next_proposer(market: &Market, m: &Pairing, p: u32, from: &mut [u32]) -> Option<u32>
-    requires in_range { p < length market.now.proposers }
-    requires made { IsPairingOf market.now m.now }
-    requires search { IsSearchAt market.now m.now.places from.old }
-    ensures search { IsSearchAt market.now m.now.places from.new }
-    ensures stay { StayFinished from.old from.new }
-    ensures next { MatchOption result
-        ((i : ℕ) → ¬ IsSuccessor market.now m.now.places p i)
-        (λ q. IsNext market.now m.now.places p q) }
-    ensures in_range { MatchOption result (Unit {0}) (λ q. q < length market.now.proposers) }
-{
-    let place = first_taker(market, m, p, from[p as usize]);
-    from[p as usize] = place.max(from[p as usize]);
-    if place >= market.proposer_len(p) {
-        return None;
-    }
-    m.holder(market.reviewer_at(p, place))
-}
-
-/// The first place behind `p`'s partner whose reviewer would take `p`, where there is none before the place `from`. The length
-/// of `p`'s list where there is none at all.
-pub(crate) fn first_taker(market: &Market, m: &Pairing, p: u32, from: u32) -> u32
-    requires in_range { p < length market.now.proposers }
-    requires made { IsPairingOf market.now m.now }
-    requires passed { (i : ℕ) → standing market.now.proposers m.now.places.proposers p < i → i
-        < length (row market.now.proposers p)
-        → i < from
-        → ¬ WouldTake market.now m.now.places p i }
-    ensures passed { (i : ℕ) → standing market.now.proposers m.now.places.proposers p < i → i
-        < result
-        → ¬ WouldTake market.now m.now.places p i }
-    ensures within { result ≤ length (row market.now.proposers p) }
-    ensures behind { result < length (row market.now.proposers p)
-        → standing market.now.proposers m.now.places.proposers p < result }
-    ensures takes { result < length (row market.now.proposers p)
-        → WouldTake market.now m.now.places p result }
-{
-    let places = market.proposer_list(p).len() as u32;
-    let behind = market.proposer_standing(m, p) + 1;
-    for place in behind.max(from)..places {
-        if would_take(market, m, p, place) {
-            return place;
-        }
-    }
-    places
 }

@@ -12,7 +12,6 @@
 mod best;
 mod couples;
 mod exposure;
-pub mod laws;
 mod needs;
 mod partitions;
 mod reduced;

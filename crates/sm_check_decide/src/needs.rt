@@ -10,9 +10,9 @@ ghost use Rattle.sm_theory.specs.Marks.{marks_in, marks_of, note_of, mark_at, Is
 ghost use Rattle.sm_check_decide.specs.Noting.{IsNotesFor, AreNoted, AreNotesBelow};
 ghost use Rattle.sm_check_decide.specs.Trails.{IsTrail};
 
-use crate::exposure::first_taker;
 use crate::trail::Trail;
 use sm_market::{Market, Pairing, next_in};
+use sm_successors::first_taker;
 use sm_theory::{Rotation, mark_span, no_marks, note_movers};
 use std::alloc::{AllocError, Global};
 use std::marker::Model;

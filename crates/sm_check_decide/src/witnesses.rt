@@ -1,12 +1,7 @@
-//! Small markets of which the checker computes what the definitions say, so that they are not about nothing. Each function does
+//! A small market of which the checker computes what the definition says, so that it is not about nothing. The function does
 //! nothing: its contract is the statement.
 
-ghost use Rattle.sm_check_decide.specs.Witnesses.{SeatIsPassed, RotationIsFound};
-
-/// How far the search for successors may have gone at two matchings.
-pub fn seat_is_passed()
-    ensures { SeatIsPassed }
-{}
+ghost use Rattle.sm_check_decide.specs.Witnesses.{RotationIsFound};
 
 /// Who is in an exposed rotation with whom.
 pub fn rotation_is_found()

@@ -7,8 +7,6 @@ pub mod FollowingLemmas
 pub mod ChainingLemmas
 pub mod WalkLemmas
 pub mod StackLemmas
-pub mod FrontLemmas
-pub mod CutLemmas
 pub mod WalkSteps
 pub mod OrderLemmas
 pub mod TurnLemmas

@@ -4,12 +4,11 @@ use Rattle.std.proofs.lemmas.List.{length_push, get_or-set_same, get_or-set_othe
 use Rattle.std.proofs.lemmas.Nat.{mul-add-lt}
 use Rattle.std.proofs.Math.Nat.{mul_comm}
 use Rattle.std.proofs.lemmas.Option.{none-some}
-use Rattle.sm_market.specs.Lists.{Lists, place_of, IsMarket}
+use Rattle.sm_market.specs.Lists.{Lists, IsMarket}
 use Rattle.sm_market.specs.Matching.{Places}
 use Rattle.sm_market.specs.Stable.{IsStable}
 use Rattle.sm_lists.proofs.Counting.{lt_or_le, eq_or_ne}
-use Rattle.sm_lists.proofs.PlaceLemmas.{entry-place_of}
-use Rattle.sm_theory.specs.Rotations.{IsSuccessor, IsExposed, proposer_at, reviewer_at, eliminated}
+use Rattle.sm_theory.specs.Rotations.{IsSuccessor, IsExposed, eliminated}
 use Rattle.sm_rotations.specs.Walking.{IsNext, IsAtWorst, IsStack, AreStackPairs, spot_of, is_finished, IsWalking, AreTakenOff, IsTopTakenOff, IsTopAtWorst, CanFollowTop, LeadsBack}
 use Rattle.sm_rotations.proofs.WalkLemmas.{worst_at_end, worst_before, stack_exposed}
 use Rattle.sm_rotations.proofs.StackLemmas.{walk_finishes, walk_goes_on, walk_takes_off}
@@ -87,14 +86,6 @@ module _ {l : Lists} (h : IsMarket l) {first m : Places} {rotations : List (List
         → IsWalking l first n grown finished rest after
     walk_back {n} {grown} {rest} {after} t cut e f =
         rw (cut, f) (walk_takes_off h w from exposed_back a t (length-take-le from stack (omega (arith, b.from_in, b.last))) (λ j less. get_or-take from stack j 0 less) e)
-
-    -- its reviewers are those of the market
-    pub reviewers_there : (i : ℕ) → i < length pairs → reviewer_at pairs i < length l.reviewers
-    reviewers_there i inside =
-        let p : ℕ = proposer_at pairs i in
-        let r : ℕ = reviewer_at pairs i in
-        let on = w.stable.matching.proposers.on_list p (place_of l.proposers p r) (a.paired i inside) in
-        rw (entry-place_of l.proposers p r on) at (h.proposers.in_range p (place_of l.proposers p r) on)
 
 -- who is finished stays so
 pub is_finished-set : (finished : List Bool) (t p : ℕ) → t < length finished → is_finished finished p ≡ true → is_finished (set finished t true) p ≡ true

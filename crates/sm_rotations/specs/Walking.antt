@@ -60,13 +60,6 @@ pub record AreTakenOff (stack : List ℕ) (from : ℕ) (before after : List (Opt
   pub gone : (k : ℕ) → from ≤ k → k < length stack → spot_of after (slice_index stack k) ≡ None
   pub only : (p : ℕ) → (spot_of after p ≡ spot_of before p) ⊎ ((spot_of after p ≡ None) × IsOnStack stack from p)
 
--- a pair from number i on has r
-pub record IsLeftIn (pairs : List (ℕ × ℕ)) (i r : ℕ) : Type 0 where
-  pub pair : ℕ
-  pub from : i ≤ pair
-  pub inside : pair < length pairs
-  pub is : reviewer_at pairs pair ≡ r
-
 -- the top is taken off the stack, and finished
 pub record IsTopTakenOff (stack rest : List ℕ) (before after : List (Option ℕ)) (old new : List Bool) : Type 0 where
   pub top : ℕ

@@ -39,7 +39,7 @@ pub fn chain(alloc: Global, market: &Market, best: &Pairing) -> Result<Chain, Al
 /// The complete chain of rotations, as [`chain`] gives it, with what each rotation needs, as [`needs`](crate::needs) finds it
 /// of that chain.
 ///
-/// A walk with one stack of proposers over linked lists finds the rotations, and a heap puts them into their order. What each
+/// A walk with one stack of proposers along successors finds the rotations, and a heap puts them into their order. What each
 /// one needs is found once, before that, and takes its new numbers on the way. Takes time and memory in proportion to the
 /// agents, the entries and the predecessors of the rotations, up to a logarithm in the number of rotations (Gusfield and
 /// Irving 1989, section 2.5 and chapter 3).

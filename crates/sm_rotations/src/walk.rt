@@ -1,21 +1,20 @@
 //! Some complete chain of rotations, found by a walk along successors.
 //!
-//! The walk goes over the pairs that are left of a market once each matched reviewer's list is cut behind its partner.
-//! There a matched proposer's first pair is its own one, and the second tells its successor.
+//! Each proposer's successor is looked for along its list, from where it was looked for before. Reviewers never get worse
+//! partners by an elimination, so that no entry is passed twice.
 
-ghost use Rattle.std.specs.Prelude.{◌≡◌, ◌≢◌, ℕ, ◌-◌, ◌<◌, ◌≤◌, ◌++◌, ◌∷◌, [], length, take, Some, None, true, false, MatchOption, IfOk, OnOk, replicate, slice_index, slice_set};
+ghost use Rattle.std.specs.Prelude.{◌≡◌, ◌≢◌, ℕ, ◌-◌, ◌<◌, ◌≤◌, ◌++◌, ◌∷◌, [], length, take, Some, None, true, false, IfOk, OnOk, replicate, slice_index, slice_set};
 ghost use Rattle.sm_market.specs.Lists.{place_of, IsMarket};
 ghost use Rattle.sm_market.specs.Matching.{held};
 ghost use Rattle.sm_market.specs.Stable.{IsStable, IsProposersBest};
 ghost use Rattle.sm_market.specs.Pairing.{IsPairingOf};
-ghost use Rattle.sm_theory.specs.Rotations.{IsSuccessor, reviewer_at};
 ghost use Rattle.sm_theory.specs.Chains.{IsCompleteChain};
 ghost use Rattle.sm_theory.specs.Values.{rotations_of};
-ghost use Rattle.sm_accept.specs.Linking.{IsLinkedOf, AreReducedEnds, AreReducedEndsBut};
-ghost use Rattle.sm_rotations.specs.Walking.{IsLeftIn, IsNext, IsAtWorst, IsStack, AreStackPairs, AreTakenOff, is_finished, spot_of, IsTopTakenOff, IsWalkStep, LeadsBack};
+ghost use Rattle.sm_successors.specs.Search.{IsSearchAt};
+ghost use Rattle.sm_rotations.specs.Walking.{IsAtWorst, IsStack, AreStackPairs, AreTakenOff, is_finished, spot_of, IsTopTakenOff, IsWalkStep, LeadsBack};
 
-use sm_accept::{Linked, cut_to_partner};
 use sm_market::{Market, Pairing};
+use sm_successors::next_proposer;
 use sm_theory::{Rotation, eliminate};
 use std::alloc::{AllocError, Global};
 
@@ -48,8 +47,8 @@ struct WalkStack {
 /// the top has no successor, or the proposer that has it is finished, no stable matching is worse for the top, and it is
 /// finished too (Gusfield and Irving 1989, chapter 3, in a form of this project's own).
 ///
-/// A rotation begins with that proposer of it that was put on the stack first. Each pair of the market is passed at most
-/// once and taken out at most once, so the time and the memory are in proportion to the agents and entries.
+/// A rotation begins with that proposer of it that was put on the stack first. Each entry of the market is passed at most
+/// once, so the time is in proportion to the agents and entries. So is the memory, which is for the agents and the rotations.
 ///
 /// # Errors
 ///
@@ -65,18 +64,18 @@ pub(crate) fn walk(
         (rotations_of rotations.items)) }
 {
     let mut m = best.copy(alloc)?;
-    let mut linked = Linked::up_to_partners(alloc, market, &m)?;
     let mut trail = WalkStack::new(alloc, market.proposers() as usize)?;
+    let mut from = vec![in alloc; 0; market.proposers() as usize]?;
     let mut rotations = Vec::new(alloc);
+    let from = from.as_mut_slice();
     for p in 0..market.proposers() {
         'steps: while !trail.is_finished(p) {
-            match walk_step(market, &m, &linked, &trail, p) {
+            match walk_step(market, &m, &trail, from, p) {
                 WalkStep::Over => trail.take_top_off(),
                 WalkStep::On(q) => trail.put_on(q)?,
-                WalkStep::Back(from) => {
-                    let rotation = trail.take_off(alloc, market, &m, from)?;
+                WalkStep::Back(spot) => {
+                    let rotation = trail.take_off(alloc, market, &m, spot)?;
                     eliminate(market, &mut m, &rotation);
-                    cut_to_new_partners(market, &m, &rotation.pairs, &mut linked);
                     rotations.push(rotation)?;
                 }
             }
@@ -85,27 +84,28 @@ pub(crate) fn walk(
     Ok(rotations)
 }
 
-/// What the walk does next, while `p` isn't finished. Where the stack is empty, `p` is put on it.
-fn walk_step(market: &Market, m: &Pairing, linked: &Linked, trail: &WalkStack, p: u32) -> WalkStep
+/// What the walk does next, while `p` isn't finished. Where the stack is empty, `p` is put on it. `from` has how far the
+/// successors were looked for.
+fn walk_step(market: &Market, m: &Pairing, trail: &WalkStack, from: &mut [u32], p: u32) -> WalkStep
     requires in_range { p < length market.now.proposers }
     requires market { IsMarket market.now }
     requires made { IsPairingOf market.now m.now }
     requires stable { IsStable market.now m.now.places }
-    requires linked { IsLinkedOf market.now linked.now }
-    requires front { AreReducedEnds market.now m.now.places linked.now.ends }
+    requires search { IsSearchAt market.now m.now.places from.old }
     requires stack { IsStack market.now m.now.places trail.now.stack.items trail.now.spots.items }
     requires finished_each { length trail.now.finished.items ≡ length market.now.proposers }
     requires at_worst { (q : ℕ) → is_finished trail.now.finished.items q ≡ true
         → IsAtWorst market.now m.now.places q }
     requires unfinished { is_finished trail.now.finished.items p ≡ false }
-    ensures { IsWalkStep market.now m.now.places trail.now.stack.items trail.now.spots.items
+    ensures search { IsSearchAt market.now m.now.places from.new }
+    ensures step { IsWalkStep market.now m.now.places trail.now.stack.items trail.now.spots.items
         trail.now.finished.items result }
 {
     if trail.stack.is_empty() {
         return WalkStep::On(p);
     }
     let top = trail.top();
-    let Some(q) = holder_of_next(market, m, linked, top) else {
+    let Some(q) = next_proposer(market, m, top, from) else {
         return WalkStep::Over;
     };
     if trail.is_finished(q) {
@@ -113,7 +113,7 @@ fn walk_step(market: &Market, m: &Pairing, linked: &Linked, trail: &WalkStack, p
     }
     match trail.spot(q) {
         None => WalkStep::On(q),
-        Some(from) => WalkStep::Back(from),
+        Some(spot) => WalkStep::Back(spot),
     }
 }
 
@@ -259,37 +259,4 @@ fn clear_spots(from: usize, stack: &[u32], spots: &mut [Option<usize>])
     for k in from..stack.len() {
         spots[stack[k] as usize] = None;
     }
-}
-
-/// Cuts the lists of the reviewers of a rotation behind their partners, once it is eliminated.
-fn cut_to_new_partners(market: &Market, m: &Pairing, pairs: &[(u32, u32)], linked: &mut Linked)
-    requires market { IsMarket market.now }
-    requires made { IsPairingOf market.now m.now }
-    requires in_range { (i : ℕ) → i < length pairs.now → reviewer_at pairs.now i
-        < length market.now.reviewers }
-    requires linked { IsLinkedOf market.now linked.old }
-    requires front { AreReducedEndsBut market.now m.now.places linked.old.ends (IsLeftIn pairs.now 0) }
-    ensures linked { IsLinkedOf market.now linked.new }
-    ensures front { AreReducedEnds market.now m.now.places linked.new.ends }
-{
-    for i in 0..pairs.len() {
-        cut_to_partner(market, m, pairs[i].1, linked);
-    }
-}
-
-/// The proposer that has the successor of `p`, by the pairs that are left.
-fn holder_of_next(market: &Market, m: &Pairing, linked: &Linked, p: u32) -> Option<u32>
-    requires in_range { p < length market.now.proposers }
-    requires market { IsMarket market.now }
-    requires made { IsPairingOf market.now m.now }
-    requires linked { IsLinkedOf market.now linked.now }
-    requires front { AreReducedEnds market.now m.now.places linked.now.ends }
-    ensures next { MatchOption result
-        ((i : ℕ) → ¬ IsSuccessor market.now m.now.places p i)
-        (λ q. IsNext market.now m.now.places p q) }
-    ensures in_range { MatchOption result (Unit {0}) (λ q. q < length market.now.proposers) }
-{
-    let place = m.place(p)?;
-    let next = linked.behind(market, p, place)?;
-    m.holder(market.reviewer_at(p, next))
 }

@@ -1,5 +1,6 @@
 use Rattle.std.proofs.Common.{arith, sym, ◌∙◌, true≢false}
 use Rattle.sm_check_decide.proofs.SafeLemmas.{safe_at_end}
+use Rattle.sm_check_decide.proofs.SearchLemmas.{finished_further}
 use Rattle.sm_check_decide.proofs.PathLemmas.{path_goes_on, begin_safe, all_safe, before_pushed, all_pushed, round_safe, round_below}
 use Rattle.sm_check_decide.proofs.exposure.is_safe.Goals as goal
 
@@ -15,7 +16,7 @@ steps-preserved c = rw c.push.ensures.pushed (record {
   proposers = c.steps.invariant.proposers;
   in_range = c.in-Some.ensures.in_range;
   search = c.next_proposer.ensures.search;
-  stay = λ count finished. c.next_proposer.ensures.stay count (c.steps.invariant.stay count finished);
+  stay = λ count finished. finished_further c.next_proposer.ensures.one_each c.next_proposer.ensures.further (c.steps.invariant.stay count finished);
   before = before_pushed c.steps.invariant.path c.steps.invariant.before;
   path = path_goes_on c.steps.invariant.path c.in-Some.ensures.next;
 })
@@ -41,4 +42,4 @@ returns-else-spot-start-clause-found c = λ no' none. true≢false (sym (c.none_
     (round_below c.requires.market c.requires.made.matching c.steps.invariant.path c.spot-spot.ensures.trail.distinct c.spot-spot.result (omega (arith, c.if-spot-start.false)) c.spot-spot.ensures.in_trail c.spot-spot.ensures.is none)) ∙ no')
 
 pub returns-in_default-clause-stay : goal.returns-in_default-clause-stay
-returns-in_default-clause-stay c = λ count finished. c.next_proposer.ensures.stay count (c.steps.invariant.stay count finished)
+returns-in_default-clause-stay c = λ count finished. finished_further c.next_proposer.ensures.one_each c.next_proposer.ensures.further (c.steps.invariant.stay count finished)

@@ -1,5 +1,6 @@
 use Rattle.std.proofs.Common.{◌≡◌, ℕ, ◌<◌, ◌-◌, length, slice_index}
-use Rattle.sm_check_decide.specs.Exposure.{IsSearchAt, IsSafe}
+use Rattle.sm_successors.specs.Search.{IsSearchAt}
+use Rattle.sm_check_decide.specs.Exposure.{IsSafe}
 use Rattle.sm_check_decide.specs.ExposureKept.{IsSuccessorPath, StayFinished}
 use Rattle.sm_check_decide.proofs.exposure.is_safe.Given as goal
 

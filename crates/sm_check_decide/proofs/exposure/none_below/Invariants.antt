@@ -1,5 +1,6 @@
 use Rattle.std.proofs.Common.{◌≡◌, ℕ, ◌<◌, length}
-use Rattle.sm_check_decide.specs.Exposure.{IsSearchAt, IsSafe}
+use Rattle.sm_successors.specs.Search.{IsSearchAt}
+use Rattle.sm_check_decide.specs.Exposure.{IsSafe}
 use Rattle.sm_check_decide.specs.ExposureKept.{AreSafe, AreFinished}
 use Rattle.sm_check_decide.proofs.exposure.none_below.Given as goal
 

@@ -1,5 +1,5 @@
 use Rattle.std.proofs.Common.{length, ◌-◌}
-use Rattle.sm_check_decide.specs.Exposure.{IsSearchAt}
+use Rattle.sm_successors.specs.Search.{IsSearchAt}
 use Rattle.sm_check_decide.specs.ExposureKept.{AreFinished}
 use Rattle.sm_check_decide.proofs.exposure.pass_finished.Given as goal
 

@@ -1,4 +1,4 @@
-use Rattle.sm_check_decide.proofs.PathLemmas.{first_is}
+use Rattle.sm_successors.proofs.NextLemmas.{first_is}
 use Rattle.sm_check_decide.proofs.needs.place_behind.Goals as goal
 
 pub returns : goal.returns

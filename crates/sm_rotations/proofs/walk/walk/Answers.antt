@@ -1,21 +1,21 @@
-use Rattle.std.proofs.Common.{◌≡◌, ◌∙◌, ◌++◌, ◌∷◌, [], ap, sym, inl, inr, arith}
+use Rattle.std.proofs.Common.{◌≡◌, ◌∙◌, ◌++◌, ◌∷◌, [], ap, sym, inl, inr, replicate, rules, arith}
 use Rattle.sm_market.specs.Pairing.{Paired}
 use Rattle.sm_lists.proofs.Counting.{eq_or_ne}
 use Rattle.sm_theory.specs.Values.{rotations_of}
+use Rattle.sm_successors.proofs.SearchLemmas.{search_begins, search_goes_on}
 use Rattle.sm_rotations.specs.Walking.{IsTopAtWorst, CanFollowTop, LeadsBack}
 use Rattle.sm_rotations.proofs.ChainingLemmas.{places_fall, rotations_of-push}
-use Rattle.sm_rotations.proofs.CutLemmas.{front_left}
 use Rattle.sm_rotations.proofs.StackLemmas.{walk_whole}
-use Rattle.sm_rotations.proofs.WalkSteps.{walk_begins, walk_over, walk_on, walk_back, exposed_back, reviewers_there, is_finished-set, fewer_over, fewer_on, fewer_back}
+use Rattle.sm_rotations.proofs.WalkSteps.{walk_begins, walk_over, walk_on, walk_back, exposed_back, is_finished-set, fewer_over, fewer_on, fewer_back}
 use Rattle.sm_rotations.proofs.walk.walk.Goals as goal
 
 pub loop-p-init : goal.loop-p-init
 loop-p-init c =
     let x = c.in_ok-trail.ensures in
+    let from_is : c.as_mut_slice-from.result.now ≡ replicate c.proposers-2.result 0 = search rules in
     record {
       made = rw c.in_ok-m.ensures c.requires.made;
-      linked = c.in_ok-linked.ensures.made;
-      front = c.in_ok-linked.ensures.front;
+      search = rw (from_is, c.proposers-2.ensures.count) (search_begins c.args.market.now c.in_ok-m.m.places);
       walking = walk_begins c.proposers.result c.proposers.ensures.count c.requires.best.stable (ap (λ (v : Paired). v.places) c.in_ok-m.ensures) (ap rotations_of c.new-rotations.ensures.items) x.finished x.stack x.spots;
       done = λ q less. absurd (omega arith);
     }
@@ -25,58 +25,43 @@ steps-smaller-in-Over c = fewer_over c.steps.invariant.walking.on_stack c.steps.
 
 pub steps-preserved-in-Over : goal.steps-preserved-in-Over
 steps-preserved-in-Over c =
-    let worst : IsTopAtWorst c.args.market.now c.steps.m.places c.steps.trail.stack.items = c.in-Over.ensures in
+    let worst : IsTopAtWorst c.args.market.now c.steps.m.places c.steps.trail.stack.items = c.in-Over.ensures.step in
     let x = c.take_top_off.ensures in
     let w = c.steps.invariant.walking in
     record {
       made = c.steps.invariant.made;
-      linked = c.steps.invariant.linked;
-      front = c.steps.invariant.front;
+      search = c.walk_step.ensures.search;
       walking = walk_over c.proposers.ensures.market w worst x;
       done = λ q less. rw x.finished (is_finished-set c.steps.trail.finished.items _ q (omega (arith, w.finished_each, w.on_stack.in_range x.top (omega (arith, x.last)))) (c.steps.invariant.done q less));
     }
 
 pub steps-smaller-in-Continue-branch-4 : goal.steps-smaller-in-Continue-branch-4
 steps-smaller-in-Continue-branch-4 c =
-    let on : CanFollowTop c.args.market.now c.steps.m.places c.steps.trail.stack.items c.steps.trail.spots.items c.steps.trail.finished.items c.in-On.q = c.in-On.ensures in
+    let on : CanFollowTop c.args.market.now c.steps.m.places c.steps.trail.stack.items c.steps.trail.spots.items c.steps.trail.finished.items c.in-On.q = c.in-On.ensures.step in
     let same : c.put_on.new.self.finished ≡ c.steps.trail.finished = c.put_on.ensures.finished in
     rw same (fewer_on c.steps.invariant.walking.on_stack on c.in_ok-put_on-in-On.ensures.stack c.in_ok-put_on-in-On.ensures.spots)
 
 pub steps-preserved-in-Continue-branch-4 : goal.steps-preserved-in-Continue-branch-4
 steps-preserved-in-Continue-branch-4 c =
-    let on : CanFollowTop c.args.market.now c.steps.m.places c.steps.trail.stack.items c.steps.trail.spots.items c.steps.trail.finished.items c.in-On.q = c.in-On.ensures in
+    let on : CanFollowTop c.args.market.now c.steps.m.places c.steps.trail.stack.items c.steps.trail.spots.items c.steps.trail.finished.items c.in-On.q = c.in-On.ensures.step in
     let same : c.put_on.new.self.finished ≡ c.steps.trail.finished = c.put_on.ensures.finished in
     record {
       made = c.steps.invariant.made;
-      linked = c.steps.invariant.linked;
-      front = c.steps.invariant.front;
+      search = c.walk_step.ensures.search;
       walking = rw same (walk_on c.proposers.ensures.market c.steps.invariant.walking on c.in_ok-put_on-in-On.ensures.stack c.in_ok-put_on-in-On.ensures.spots);
       done = rw same c.steps.invariant.done;
     }
 
 pub eliminate-requires-clause-exposed : goal.eliminate-requires-clause-exposed
 eliminate-requires-clause-exposed c =
-    let back : LeadsBack c.args.market.now c.steps.m.places c.steps.trail.stack.items c.in-Back.from = c.in-Back.ensures in
+    let back : LeadsBack c.args.market.now c.steps.m.places c.steps.trail.stack.items c.in-Back.spot = c.in-Back.ensures.step in
     exposed_back c.proposers.ensures.market c.steps.invariant.walking back c.in_ok-rotation-in-Back.ensures.pairs
-
-pub cut_to_new_partners-requires-clause-in_range :
-    goal.cut_to_new_partners-requires-clause-in_range
-cut_to_new_partners-requires-clause-in_range c =
-    let back : LeadsBack c.args.market.now c.steps.m.places c.steps.trail.stack.items c.in-Back.from = c.in-Back.ensures in
-    rw c.deref.ensures.value (reviewers_there c.proposers.ensures.market c.steps.invariant.walking back c.in_ok-rotation-in-Back.ensures.pairs)
-
-pub cut_to_new_partners-requires-clause-front : goal.cut_to_new_partners-requires-clause-front
-cut_to_new_partners-requires-clause-front c =
-    let h = c.proposers.ensures.market in
-    let back : LeadsBack c.args.market.now c.steps.m.places c.steps.trail.stack.items c.in-Back.from = c.in-Back.ensures in
-    let exposed = exposed_back h c.steps.invariant.walking back c.in_ok-rotation-in-Back.ensures.pairs in
-    rw (c.eliminate.ensures.moved, c.deref.ensures.value) (front_left h c.steps.invariant.walking.stable c.steps.invariant.front exposed)
 
 pub steps-smaller : goal.steps-smaller
 steps-smaller c =
     let h = c.proposers.ensures.market in
     let w = c.steps.invariant.walking in
-    let back : LeadsBack c.args.market.now c.steps.m.places c.steps.trail.stack.items c.in-Back.from = c.in-Back.ensures in
+    let back : LeadsBack c.args.market.now c.steps.m.places c.steps.trail.stack.items c.in-Back.spot = c.in-Back.ensures.step in
     let exposed = exposed_back h w back c.in_ok-rotation-in-Back.ensures.pairs in
     let same : c.take_off.new.self.finished ≡ c.steps.trail.finished = c.take_off.ensures.finished in
     rw same (fewer_back _ _ _ _ _ (places_fall c.in_ok-rotation-in-Back.rotation.pairs.items h w.stable exposed c.eliminate.ensures.moved) back c.in_ok-rotation-in-Back.ensures.rest)
@@ -84,23 +69,23 @@ steps-smaller c =
 pub steps-preserved : goal.steps-preserved
 steps-preserved c =
     let h = c.proposers.ensures.market in
-    let back : LeadsBack c.args.market.now c.steps.m.places c.steps.trail.stack.items c.in-Back.from = c.in-Back.ensures in
+    let back : LeadsBack c.args.market.now c.steps.m.places c.steps.trail.stack.items c.in-Back.spot = c.in-Back.ensures.step in
+    let w = c.steps.invariant.walking in
+    let exposed = exposed_back h w back c.in_ok-rotation-in-Back.ensures.pairs in
     let x = c.in_ok-rotation-in-Back.ensures in
     let grown : rotations_of c.push.new.self.items ≡ rotations_of c.steps.rotations.items ++ c.in_ok-rotation-in-Back.rotation.pairs.items ∷ [] = ap rotations_of c.in_ok-push-in-Back.ensures.items ∙ rotations_of-push c.steps.rotations.items c.in_ok-rotation-in-Back.rotation in
     let same : c.take_off.new.self.finished ≡ c.steps.trail.finished = c.take_off.ensures.finished in
     record {
       made = c.eliminate.ensures.made;
-      linked = c.cut_to_new_partners.ensures.linked;
-      front = c.cut_to_new_partners.ensures.front;
-      walking = rw same (walk_back h c.steps.invariant.walking back x.pairs x.off x.rest c.eliminate.ensures.moved grown);
+      search = rw c.eliminate.ensures.moved (search_goes_on c.args.market.now c.steps.m.places c.in_ok-rotation-in-Back.rotation.pairs.items _ h w.stable exposed c.walk_step.ensures.search);
+      walking = rw same (walk_back h w back x.pairs x.off x.rest c.eliminate.ensures.moved grown);
       done = rw same c.steps.invariant.done;
     }
 
 pub loop-p-preserved : goal.loop-p-preserved
 loop-p-preserved c = record {
   made = c.steps.invariant.made;
-  linked = c.steps.invariant.linked;
-  front = c.steps.invariant.front;
+  search = c.steps.invariant.search;
   walking = c.steps.invariant.walking;
   done = λ q less. elim (eq_or_ne q c.loop-p.p) [
     | inl e ↦ rw e (sym c.is_finished.ensures ∙ c.steps-test.false)

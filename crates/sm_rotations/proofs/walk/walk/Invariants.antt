@@ -1,7 +1,7 @@
 use Rattle.std.proofs.Common.{◌≡◌, ℕ, ◌<◌, true}
 use Rattle.sm_market.specs.Pairing.{IsPairingOf}
 use Rattle.sm_theory.specs.Values.{rotations_of}
-use Rattle.sm_accept.specs.Linking.{IsLinkedOf, AreReducedEnds}
+use Rattle.sm_successors.specs.Search.{IsSearchAt}
 use Rattle.sm_rotations.specs.Walking.{IsWalking, is_finished}
 use Rattle.sm_rotations.proofs.WalkSteps.{steps_left}
 use Rattle.sm_rotations.proofs.walk.walk.Given as goal
@@ -9,8 +9,7 @@ use Rattle.sm_rotations.proofs.walk.walk.Given as goal
 abbrev pub invariant-loop-p : goal.invariant-loop-p
 invariant-loop-p l = record {
   made : IsPairingOf l.market l.m;
-  linked : IsLinkedOf l.market l.linked;
-  front : AreReducedEnds l.market l.m.places l.linked.ends;
+  search : IsSearchAt l.market l.m.places l.from;
   walking : IsWalking l.market l.best.places l.m.places (rotations_of l.rotations.items) l.trail.finished.items l.trail.stack.items l.trail.spots.items;
   done : (q : ℕ) → q < l.p → is_finished l.trail.finished.items q ≡ true;
 }
@@ -18,8 +17,7 @@ invariant-loop-p l = record {
 abbrev pub invariant-steps : goal.invariant-steps
 invariant-steps l = record {
   made : IsPairingOf l.market l.m;
-  linked : IsLinkedOf l.market l.linked;
-  front : AreReducedEnds l.market l.m.places l.linked.ends;
+  search : IsSearchAt l.market l.m.places l.from;
   walking : IsWalking l.market l.best.places l.m.places (rotations_of l.rotations.items) l.trail.finished.items l.trail.stack.items l.trail.spots.items;
   done : (q : ℕ) → q < l.p → is_finished l.trail.finished.items q ≡ true;
 }

@@ -2,12 +2,12 @@ use Rattle.std.proofs.Common.{sym, ◌∙◌, ◌-◌, ◌<◌, length, arith, r
 use Rattle.sm_rotations.proofs.WalkSteps.{over_at_end, over_before}
 use Rattle.sm_rotations.proofs.walk.walk_step.Goals as goal
 
-pub returns-in_default : goal.returns-in_default
-returns-in_default c =
+pub returns-in_default-clause-step : goal.returns-in_default-clause-step
+returns-in_default-clause-step c =
     let some : 0 < length c.args.trail.now.stack.items = search rules in
     over_at_end c.requires.market c.requires.stable (length c.args.trail.now.stack.items - 1) (omega arith) (rw c.top-top.ensures at c.in_default.ensures.next)
 
-pub returns-then-is_finished : goal.returns-then-is_finished
-returns-then-is_finished c =
+pub returns-then-is_finished-clause-step : goal.returns-then-is_finished-clause-step
+returns-then-is_finished-clause-step c =
     let some : 0 < length c.args.trail.now.stack.items = search rules in
     over_before c.requires.market c.requires.stable (length c.args.trail.now.stack.items - 1) (omega arith) c.in-Some.q (rw c.top-top.ensures at c.in-Some.ensures.next) (c.requires.at_worst c.in-Some.q (sym c.is_finished.ensures ∙ c.if-is_finished.true))

@@ -2,7 +2,7 @@ use Rattle.std.proofs.Common.{ℕ, ◌<◌, length}
 use Rattle.sm_market.specs.Lists.{row}
 use Rattle.sm_market.specs.Matching.{standing}
 use Rattle.sm_theory.specs.Rotations.{WouldTake}
-use Rattle.sm_check_decide.proofs.exposure.first_taker.Given as goal
+use Rattle.sm_successors.proofs.search.first_taker.Given as goal
 
 abbrev pub invariant-loop-place : goal.invariant-loop-place
 invariant-loop-place l = record {

@@ -4,7 +4,7 @@ use Rattle.sm_market.specs.Matching.{standing}
 use Rattle.sm_theory.specs.Rotations.{WouldTake}
 use Rattle.sm_theory.specs.Chains.{stage}
 use Rattle.sm_theory.specs.Witnesses.{passed_seat, passed_seat_first, passed_seat_chain}
-use Rattle.sm_check_decide.proofs.witnesses.seat_is_passed.Goals as goal
+use Rattle.sm_successors.proofs.witnesses.seat_is_passed.Goals as goal
 
 -- at place 1 of the list of each of four proposers, and at no other
 at_first : (p i : ℕ) → standing passed_seat.proposers passed_seat_first.proposers p < i → i < length (row passed_seat.proposers p) → i < slice_index (1 ∷ 1 ∷ 1 ∷ 1 ∷ []) p → ¬ WouldTake passed_seat passed_seat_first p i

@@ -1,8 +1,8 @@
 use Rattle.std.proofs.Common.{◌≡◌, ◌<◌, length, ap, sym, ◌∙◌, arith}
 use Rattle.sm_market.specs.Lists.{row, entry}
 use Rattle.sm_market.specs.Matching.{held}
-use Rattle.sm_check_decide.proofs.PathLemmas.{next_answer}
-use Rattle.sm_check_decide.proofs.exposure.next_proposer.Goals as goal
+use Rattle.sm_successors.proofs.NextLemmas.{next_answer}
+use Rattle.sm_successors.proofs.search.next_proposer.Goals as goal
 
 pub returns-clause-next : goal.returns-clause-next
 returns-clause-next c =

@@ -1,5 +1,0 @@
-use Rattle.sm_check_decide.proofs.SearchLemmas.{search_goes_on}
-use Rattle.sm_check_decide.proofs.laws.search_goes_on.Goals as goal
-
-pub returns : goal.returns
-returns c = search_goes_on
