@@ -1,9 +1,10 @@
 -- What is kept beside an instance, so that the calls on it take no memory.
-use Rattle.std.specs.Prelude.{◌≡◌, ℕ, ◌+◌, ◌<◌, ◌^◌, List, [], length, map, slice_index_or, Option}
+use Rattle.std.specs.Prelude.{◌≡◌, ℕ, ◌+◌, ◌<◌, ◌^◌, List, [], length, map, slice_index_or, Option, IfSome}
 use Rattle.sm_instance.specs.Written.{AgentData, Written, row, entry, names_of, weighed}
 use Rattle.sm_instance.specs.Sound.{IsInstance, ArePersons}
 use Rattle.sm_instance.specs.declared.namings.Naming.{Naming}
-pub use Rattle.sm_instance.specs.Crosses.{cross_place, AreCrossPlacesOf, AreCrossPlaces}
+use Rattle.sm_instance.specs.declared.crosses.Crosses.{Crosses}
+pub use Rattle.sm_instance.specs.Crosses.{cross_place, AreCrossPlacesOf, AreCrossPlaces, AreCrossesOf}
 
 -- what stands for a naming past the last
 abbrev pub no_naming : Naming
@@ -32,13 +33,12 @@ pub record AreNamings (agents : List AgentData) (others : ℕ) (namings : List (
   pub one_each : length namings ≡ others
   pub of : (r : ℕ) → r < others → AreNamingsOf agents r (slice_index_or namings r [])
 
--- what is kept beside an instance: the cross places of both sides, who names each reviewer, the names of both sides and the pairs with
--- a weight
-pub record IsKept (w : Written) (crosses reviewer_crosses : List (List (Option ℕ))) (namings : List (List Naming)) (left right : List (List ℕ)) (pairs : List (ℕ × ℕ)) : Type 0 where
+-- what is kept beside an instance: who names each reviewer, the names of both sides, the pairs with a weight and, unless it is kept
+-- without them, the cross places of both sides
+pub record IsKept (w : Written) (crosses : Option Crosses) (namings : List (List Naming)) (left right : List (List ℕ)) (pairs : List (ℕ × ℕ)) : Type 0 where
   pub instance : IsInstance w
   pub few : length w.weights + length w.forced + length w.forbidden < 2 ^ 24
-  pub crossed : AreCrossPlaces w.proposers w.reviewers crosses
-  pub crossed_back : AreCrossPlaces w.reviewers w.proposers reviewer_crosses
+  pub crossed : IfSome crosses (AreCrossesOf w.proposers w.reviewers)
   pub named : AreNamings w.proposers (length w.reviewers) namings
   pub lefts : left ≡ names_of w.proposers
   pub rights : right ≡ names_of w.reviewers

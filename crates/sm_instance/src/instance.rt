@@ -8,13 +8,12 @@ ghost use Rattle.sm_instance.specs.Written.{row, entry, names_of, capacity_of, I
 ghost use Rattle.sm_instance.specs.Vectors.{agents_of, written_from, written_in};
 ghost use Rattle.sm_instance.specs.Ranks.{HasSeconds};
 ghost use Rattle.sm_instance.specs.Sound.{IsInstance, IsEachOnce};
-ghost use Rattle.sm_instance.specs.Crosses.{cross_place, AreCrossPlacesOf};
+ghost use Rattle.sm_instance.specs.Crosses.{cross_place, AreCrossesOf, crosses_lent};
 ghost use Rattle.sm_instance.specs.Kept.{AreNamingsOf};
 
 use crate::agents::{Agent, capacity_at, list_at};
 use crate::checks::{are_within_limits, checked};
-use crate::cross::Cross;
-use crate::crosses::crossings;
+use crate::crosses::{Crosses, LentCrosses, find_crosses, find_namings, place_on};
 use crate::faults::InstanceFault;
 use crate::kinds::Kind;
 use crate::names::names_for;
@@ -23,7 +22,7 @@ use crate::order::is_each_once;
 use crate::pairs::Pairs;
 use crate::parts::Parts;
 use crate::seconds::{checked_seconds, has_nonzero, set_seconds};
-use sm_lists::{CrossPlaces, KeptPlace, Packed};
+use sm_lists::Packed;
 use sm_names::Names;
 use sm_text::TextHash;
 use std::alloc::{AllocError, Global};
@@ -45,8 +44,7 @@ pub struct Instance {
     forbidden: Vec<(u32, u32)>,
     seconds: Vec<i64>,
     order: Vec<u32>,
-    crosses: Packed<Cross>,
-    reviewer_crosses: Packed<Cross>,
+    crosses: Option<Crosses>,
     namings: Packed<Naming>,
     left: Names,
     right: Names,
@@ -66,7 +64,7 @@ impl Model for Instance {
     ghost invariant = { λ i. IsKept
         (written_with i.kind i.proposers.items i.reviewers.items i.weights.items i.forced.items
         i.forbidden.items i.seconds.items i.order.items)
-        i.crosses i.reviewer_crosses i.namings i.left i.right i.weighed };
+        i.crosses i.namings i.left i.right i.weighed };
 }
 
 impl Instance {
@@ -110,7 +108,7 @@ impl Instance {
             alloc, kind, proposers, reviewers, weights, forced, forbidden,
         )?;
         let (left, right, weighed) = checked(alloc, &parts)?;
-        Ok(of_parts(alloc, parts, left, right, weighed)?)
+        Ok(of_parts(alloc, parts, left, right, weighed, true)?)
     }
 
     /// An instance of parts that are known to make one. Nothing is tried. Names and pairs will be found by these hashes,
@@ -129,7 +127,24 @@ impl Instance {
         let left = names_for(alloc, hash, &parts.proposers)?;
         let right = names_for(alloc, hash, &parts.reviewers)?;
         let weighed = Pairs::of(alloc, hash, &parts.weights)?;
-        of_parts(alloc, parts, left, right, weighed)
+        of_parts(alloc, parts, left, right, weighed, true)
+    }
+
+    /// The same, without cross places. [`Instance::cross`] then looks along a list, and [`Instance::crosses`] makes them.
+    ///
+    /// # Errors
+    ///
+    /// `AllocError` where memory ran out, and only then.
+    pub fn held_without_crosses(alloc: Global, hash: TextHash, parts: Parts) -> Result<Instance, AllocError>
+        requires instance { IsInstance (written_in parts) }
+        requires few { length parts.weights.items + length parts.forced.items
+            + length parts.forbidden.items < 2 ^ 24 }
+        ensures { IfOk result (λ i. i ≡ written_in parts) }
+    {
+        let left = names_for(alloc, hash, &parts.proposers)?;
+        let right = names_for(alloc, hash, &parts.reviewers)?;
+        let weighed = Pairs::of(alloc, hash, &parts.weights)?;
+        of_parts(alloc, parts, left, right, weighed, false)
     }
 
     /// The kind, which is a marriage or hospitals.
@@ -325,7 +340,8 @@ impl Instance {
     }
 
     /// The place of proposer `p` on the list of the reviewer at `place` of `p`'s list; `None` where it isn't on it, so
-    /// that the entry is inert. Takes the same time for all.
+    /// that the entry is inert. Takes the same time for all, or time in the length of that list where the instance is held
+    /// without cross places.
     pub fn cross(&self, p: u32, place: u32) -> Option<u32>
         requires in_range { p < length self.now.proposers }
         requires on_list { place < length (row self.now.proposers p) }
@@ -334,25 +350,54 @@ impl Instance {
         ensures fits { IfSome result (λ back. back < most_agents) }
         ensures place_fits { place < most_agents }
     {
-        self.crosses.at(p)[place as usize].place()
+        match &self.crosses {
+            Some(crosses) => crosses.of_proposer(p)[place as usize].place(),
+            None => place_on(self.reviewer_list(self.reviewer_at(p, place)), p),
+        }
     }
 
-    /// For each place of a proposer's list, the proposer's place on the list of the reviewer there; none where it isn't on
-    /// it, so that the entry is inert. Takes the same time for all.
-    pub fn proposer_crosses(&self, p: u32) -> &[Cross]
-        requires { p < length self.now.proposers }
-        ensures { AreCrossPlacesOf self.now.proposers self.now.reviewers p result.now }
+    /// The place of reviewer `r` on the list of the proposer at `place` of `r`'s list; `None` where it isn't on it. Takes what
+    /// [`Instance::cross`] takes.
+    pub fn cross_back(&self, r: u32, place: u32) -> Option<u32>
+        requires in_range { r < length self.now.reviewers }
+        requires on_list { place < length (row self.now.reviewers r) }
+        ensures { result ≡ cross_place self.now.proposers (entry self.now.reviewers r place) r }
     {
-        self.crosses.at(p)
+        match &self.crosses {
+            Some(crosses) => crosses.of_reviewer(r)[place as usize].place(),
+            None => place_on(self.proposer_list(self.reviewer_list(r)[place as usize]), r),
+        }
     }
 
-    /// For each place of a reviewer's list, the reviewer's place on the list of the proposer there; none where it isn't on
-    /// it, so that the entry is inert. Takes the same time for all.
-    pub fn reviewer_crosses(&self, r: u32) -> &[Cross]
-        requires { r < length self.now.reviewers }
-        ensures { AreCrossPlacesOf self.now.reviewers self.now.proposers r result.now }
+    /// The cross places of both sides' lists, which are made where the instance is held without them. Takes constant time where
+    /// they are kept, else time and memory in proportion to the agents and entries.
+    ///
+    /// # Errors
+    ///
+    /// `AllocError` where memory ran out, and only then.
+    pub fn crosses(&self, alloc: Global) -> Result<LentCrosses<'_>, AllocError>
+        ensures { IfOk result (λ c. AreCrossesOf self.now.proposers self.now.reviewers (crosses_lent c)) }
     {
-        self.reviewer_crosses.at(r)
+        match &self.crosses {
+            Some(crosses) => Ok(LentCrosses::Kept(crosses)),
+            None => Ok(LentCrosses::Made(find_crosses(alloc, &self.proposers, &self.reviewers, &self.namings)?)),
+        }
+    }
+
+    /// Keeps the cross places of both sides' lists from now on. Takes what [`Instance::crosses`] takes.
+    ///
+    /// # Errors
+    ///
+    /// `AllocError` where memory ran out, and only then. The instance is then as it was.
+    pub fn keep_crosses(&mut self) -> Result<(), AllocError>
+        ensures { self.new ≡ self.old }
+    {
+        if self.crosses.is_some() {
+            return Ok(());
+        }
+        let alloc = *self.order.allocator();
+        self.crosses = Some(find_crosses(alloc, &self.proposers, &self.reviewers, &self.namings)?);
+        Ok(())
     }
 
     /// Whether a proposer and a reviewer are acceptable to each other: each lists the other.
@@ -434,13 +479,15 @@ impl Instance {
     }
 }
 
-/// An instance of parts that are known to make one, and of their names and of the pairs that are weighed.
+/// An instance of parts that are known to make one, and of their names and of the pairs that are weighed. With cross places, or
+/// without.
 fn of_parts(
     alloc: Global,
     parts: Parts,
     left: Names,
     right: Names,
     weighed: Pairs,
+    with_crosses: bool,
 ) -> Result<Instance, AllocError>
     requires instance { IsInstance (written_in parts) }
     requires few { length parts.weights.items + length parts.forced.items
@@ -450,11 +497,12 @@ fn of_parts(
     requires pairs { weighed ≡ map weighed_pair parts.weights.items }
     ensures { IfOk result (λ i. i ≡ written_in parts) }
 {
-    let CrossPlaces {
-        rows: crosses,
-        others: reviewer_crosses,
-        namings,
-    } = crossings(alloc, &parts.proposers, &parts.reviewers)?;
+    let namings = find_namings(alloc, &parts.proposers, &parts.reviewers)?;
+    let crosses = if with_crosses {
+        Some(find_crosses(alloc, &parts.proposers, &parts.reviewers, &namings)?)
+    } else {
+        None
+    };
     Ok(Instance {
         kind: parts.kind,
         proposers: parts.proposers,
@@ -465,7 +513,6 @@ fn of_parts(
         seconds: parts.seconds,
         order: parts.order,
         crosses,
-        reviewer_crosses,
         namings,
         left,
         right,

@@ -33,6 +33,7 @@ pub mod witnesses;
 
 pub use agents::{Agent, Assignment};
 pub use cross::Cross;
+pub use crosses::{Crosses, LentCrosses};
 pub use faults::InstanceFault;
 pub use inputs::Input;
 pub use instance::Instance;

@@ -19,18 +19,16 @@ use crate::packed::Packed;
 use crate::place::KeptPlace;
 use std::alloc::{AllocError, Global};
 
-/// The cross places of both sides, and who names each agent of the second.
+/// The cross places of both sides.
 #[derive(Drop)]
-pub struct CrossPlaces<C, N> {
+pub struct CrossPlaces<C> {
     /// Beside each entry of the first side's lists.
     pub rows: Packed<C>,
     /// Beside each entry of the second side's lists.
     pub others: Packed<C>,
-    /// For each agent of the second side, by number and place.
-    pub namings: Packed<N>,
 }
 
-/// The cross places of any lists of two sides, and who of the first side names each agent of the second.
+/// The cross places of any lists of two sides, by who of the first side names each agent of the second, as [`namings`] found.
 ///
 /// An entry may name nobody, stand twice on its list, or not be returned. Agents and places are numbered from 0. Takes time
 /// and memory in proportion to the agents and entries.
@@ -42,21 +40,19 @@ pub fn cross_places<C: KeptPlace, N: KeptNaming>(
     alloc: Global,
     rows: &[&[u32]],
     others: &[&[u32]],
-) -> Result<CrossPlaces<C, N>, AllocError>
+    namings: &Packed<N>,
+) -> Result<CrossPlaces<C>, AllocError>
     requires rows { AreWithinLimits (lists_in rows.now) }
     requires others { AreWithinLimits (lists_in others.now) }
     requires short_rows { AreShort (lists_in rows.now) C.most }
     requires short_others { AreShort (lists_in others.now) C.most }
-    requires few { AreShort (lists_in rows.now) N.most }
+    requires namings { AreNamings (lists_in rows.now) (length (lists_in others.now))
+        (length (lists_in rows.now)) 0 (held_in N.kept namings.now) }
     ensures rows { IfOk result (λ c. AreCrossPlaces (lists_in rows.now) (lists_in others.now)
         (held_in C.kept c.rows)) }
     ensures others { IfOk result (λ c. AreCrossPlaces (lists_in others.now) (lists_in rows.now)
         (held_in C.kept c.others)) }
-    ensures namings { IfOk result (λ c. AreNamings (lists_in rows.now)
-        (length (lists_in others.now))
-        (length (lists_in rows.now)) 0 (held_in N.kept c.namings)) }
 {
-    let namings: Packed<N> = namings(alloc, rows, others)?;
     let mut of_rows: Packed<C> = Packed::filled(alloc, rows, C::of(None))?;
     let mut of_others: Packed<C> = Packed::filled(alloc, others, C::of(None))?;
     let mut listed = Notes::new(alloc, rows.len())?;
@@ -69,7 +65,6 @@ pub fn cross_places<C: KeptPlace, N: KeptNaming>(
     Ok(CrossPlaces {
         rows: of_rows,
         others: of_others,
-        namings,
     })
 }
 
@@ -81,9 +76,15 @@ fn lent_at<'a>(rows: &[&'a [u32]], a: u32) -> &'a [u32]
     rows[a as usize]
 }
 
-/// Who of one side names each agent of the other. Each has room for as many as its list is long: whoever is named mostly names
-/// back.
-fn namings<N: KeptNaming>(
+/// Who of one side names each agent of the other, by number and place, for any lists of two sides. Each agent has room for as
+/// many as its list is long: whoever is named mostly names back.
+///
+/// Agents and places are numbered from 0. Takes time and memory in proportion to the agents and entries.
+///
+/// # Errors
+///
+/// `AllocError` where memory ran out, and only then.
+pub fn namings<N: KeptNaming>(
     alloc: Global,
     rows: &[&[u32]],
     others: &[&[u32]],

@@ -18,7 +18,7 @@ mod span;
 mod vectors;
 pub mod witnesses;
 
-pub use crosses::{CrossPlaces, cross_places};
+pub use crosses::{CrossPlaces, cross_places, namings};
 pub use naming::{KeptNaming, Naming};
 pub use numbers::earlier;
 pub use packed::Packed;

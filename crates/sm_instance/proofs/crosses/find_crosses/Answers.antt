@@ -9,7 +9,7 @@ use Rattle.sm_instance.specs.Written.{AgentData, lists_of}
 use Rattle.sm_instance.specs.Vectors.{agents_of}
 use Rattle.sm_instance.specs.declared.namings.Naming.{Naming}
 use Rattle.sm_instance.proofs.CrossLemmas.{lists_short, crosses_known, held_in-places, namings_known}
-use Rattle.sm_instance.proofs.crosses.crossings.Goals as goal
+use Rattle.sm_instance.proofs.crosses.find_crosses.Goals as goal
 
 pub cross_places-requires-clause-short_rows : goal.cross_places-requires-clause-short_rows
 cross_places-requires-clause-short_rows c =
@@ -20,11 +20,6 @@ pub cross_places-requires-clause-short_others : goal.cross_places-requires-claus
 cross_places-requires-clause-short_others c =
     let is = ap (λ lent. lists_in lent) c.deref-2.ensures.value ∙ c.in_ok-reviewers.ensures in
     subst (λ lists. AreShort lists most_agents) (sym is) (lists_short c.requires.reviewers c.requires.limits.reviewers c.requires.limits.proposers)
-
-pub cross_places-requires-clause-few : goal.cross_places-requires-clause-few
-cross_places-requires-clause-few c =
-    let is = ap (λ lent. lists_in lent) c.deref.ensures.value ∙ c.in_ok-proposers.ensures in
-    subst (λ lists. AreShort lists most_agents) (sym is) (lists_short c.requires.proposers c.requires.limits.proposers c.requires.limits.reviewers)
 
 pub returns-clause-proposers : goal.returns-clause-proposers
 returns-clause-proposers c =
@@ -50,15 +45,3 @@ returns-clause-reviewers c =
     (subst (λ x. AreCrossesOf (lists_of reviewers) x (held_in (λ (place : Option ℕ). place) found.others)) is
     (subst (λ x. AreCrossesOf x (lists_in c.deref.result.now) (held_in (λ (place : Option ℕ). place) found.others)) is' c.in_ok-found.ensures.others)))
 
-pub returns-clause-namings : goal.returns-clause-namings
-returns-clause-namings c =
-    let proposers : List AgentData = agents_of c.args.proposers.now in
-    let reviewers : List AgentData = agents_of c.args.reviewers.now in
-    let is : lists_in c.deref.result.now ≡ lists_of proposers = ap (λ lent. lists_in lent) c.deref.ensures.value ∙ c.in_ok-proposers.ensures in
-    let is' : lists_in c.deref-2.result.now ≡ lists_of reviewers = ap (λ lent. lists_in lent) c.deref-2.ensures.value ∙ c.in_ok-reviewers.ensures in
-    let many : length (lists_of reviewers) ≡ length reviewers = length-map reviewers (λ (x : AgentData). x.entries) in
-    let found = c.in_ok-found.found in
-    let Held : List (List ℕ) → ℕ → Type 0 = λ rows others. AreKnown rows others (length rows) 0 (held_in (λ (n : Naming). record { by = n.by; place = n.place }) found.namings) in
-    namings_known found.namings c.requires.proposers
-    (subst (λ n. Held (lists_of proposers) n) (ap length is' ∙ many)
-    (subst (λ x. Held x (length (lists_in c.deref-2.result.now))) is c.in_ok-found.ensures.namings))
