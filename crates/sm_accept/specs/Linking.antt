@@ -45,12 +45,6 @@ pub record AreReducedEnds (l : Lists) (m : Places) (ends : List ℕ) : Type 0 wh
   pub matched : (r k : ℕ) → held m.reviewers r ≡ Some k → slice_index ends r ≡ k + 1
   pub unmatched : (r : ℕ) → held m.reviewers r ≡ None → slice_index ends r ≡ length (row l.reviewers r)
 
--- the front of each matched reviewer's list is held, and no more than that, save of those that are left to be cut
-pub record AreReducedEndsBut (l : Lists) (m : Places) (ends : List ℕ) (left : ℕ → Type 0) : Type 0 where
-  pub above : (r k : ℕ) → held m.reviewers r ≡ Some k → k + 1 ≤ slice_index ends r
-  pub tight : (r k : ℕ) → held m.reviewers r ≡ Some k → (left r → ⊥) → slice_index ends r ≡ k + 1
-  pub unmatched : (r : ℕ) → held m.reviewers r ≡ None → slice_index ends r ≡ length (row l.reviewers r)
-
 -- Links go over numbers: 0 stands in front of a proposer's list, i + 1 for its place i, and one more behind the list.
 -- A number is in where its place is held; the first and the last are always in.
 pub record IsHeldNumber (l : Lists) (ends : List ℕ) (p j : ℕ) : Type 0 where

@@ -8,9 +8,7 @@ ghost use Rattle.sm_accept.specs.Linking.{IsLinkedOf};
 use crate::texts::{
     MEMORY, build, holds, lists_are, market, pairing, places, rotation, rotations_are,
 };
-use sm_accept::{
-    Linked, cut_to_partner, proposer_best, reduced_between, reduced_lists, reviewer_best,
-};
+use sm_accept::{Linked, proposer_best, reduced_between, reduced_lists, reviewer_best};
 use sm_market::{Market, MarketFault, Pairing, PairingFault, Side};
 use sm_poset::Poset;
 use sm_rotations::chain;
@@ -204,7 +202,7 @@ fn pairs_linked_up_to_partners(rt: HostRuntime) {
         &pairing(&rt, &market, "00"),
     ).expect(&rt, MEMORY);
     keeps(&rt, &market, &linked, (Some(0), Some(1)));
-    cut_to_partner(&market, &pairing(&rt, &market, "11"), 0, &mut linked);
+    linked.cut(&market, 0, 0);
     keeps(&rt, &market, &linked, (Some(1), None));
 }
 
