@@ -1,8 +1,8 @@
 -- The text of two given matchings.
-use Rattle.std.specs.Prelude.{◌≡◌, ℕ, ◌+◌, List, [], ◌∷◌, ◌++◌, map, All}
+use Rattle.std.specs.Prelude.{◌≡◌, ℕ, List, [], ◌∷◌, ◌++◌, map, All}
 use Rattle.sm_instance.specs.declared.inputs.Input.{Input}
 use Rattle.sm_report.specs.Lines.{LineData}
-use Rattle.sm_report.specs.FirstBad.{IsFirstBad}
+use Rattle.sm_report.specs.FirstBad.{IsFirstBad, IsFirstBadAt}
 use Rattle.sm_report.specs.Sound.{ArePair}
 use Rattle.sm_report.specs.Texts.{text_of_line}
 
@@ -44,7 +44,5 @@ abbrev pub IsBadLine : Input → List (List ℕ) → ℕ → Type 0
 IsBadLine input texts k = IsFirstBad (AreBegun input) (AreAllGiven input) texts k
 
 -- the line, counted from 1, that is the first bad one of texts, of which the first stands on this line
-pub record IsBadGivenAt (input : Input) (texts : List (List ℕ)) (first_line at : ℕ) : Type 0 where
-  pub k : ℕ
-  pub bad : IsBadLine input texts k
-  pub there : at ≡ first_line + k
+abbrev pub IsBadGivenAt : Input → List (List ℕ) → (first_line at : ℕ) → Type 0
+IsBadGivenAt input texts first_line at = IsFirstBadAt (AreBegun input) (AreAllGiven input) texts first_line at

@@ -104,7 +104,7 @@ one_misplaced input texts j k a b = elim (lt_or_le j k) [
 
 -- the law that a text with a verdict is of the form of an answer
 pub judged_isnt_bad : JudgedIsntBad
-judged_isnt_bad input texts first_line v line j b = not_misplaced input texts j.lines b.number j.answer b.misplaced
+judged_isnt_bad input texts first_line v line j b = not_misplaced input texts j.lines b.number j.answer b.bad
 
 -- the law that there is no more than one verdict on a text
 pub one_judgement : OneJudgement

@@ -1,15 +1,16 @@
 -- What the clauses of an answer are, by its head; and what comes of checking a text.
-use Rattle.std.specs.Prelude.{◌≡◌, ℕ, ◌+◌, List, ◌∷◌, Some}
+use Rattle.std.specs.Prelude.{ℕ, List, ◌∷◌, Some}
 use Rattle.sm_instance.specs.Written.{Written, AgentData}
 use Rattle.sm_instance.specs.declared.inputs.Input.{Input}
 use Rattle.sm_instance.specs.declared.inputs.Input.TheVariants.{Two, Room}
 use Rattle.sm_theory.specs.declared.choice.Choice.TheVariants.{Better, Worse}
 use Rattle.sm_report.specs.Heads.{HeadData}
 use Rattle.sm_report.specs.Lines.{LineData}
+use Rattle.sm_report.specs.FirstBad.{IsFirstBadAt}
 use Rattle.sm_check_clauses.specs.declared.verdicts.Reason.{Reason}
 use Rattle.sm_check_clauses.specs.declared.verdicts.Verdict.{Verdict}
 use Rattle.sm_check_clauses.specs.Verdicts.{AtLine, IsVerdict}
-use Rattle.sm_check_forms.specs.Forms.{AreAnswer, IsMisplaced}
+use Rattle.sm_check_forms.specs.Forms.{AreAnswer, BeginAnAnswer, MakeAnAnswer}
 use Rattle.sm_check_clauses.specs.Said.{pairs_in, lefts_in, rights_in, parties_in}
 use Rattle.sm_check_clauses.specs.Pairs.{SolveHolds, ChosenHold}
 use Rattle.sm_check_clauses.specs.Chain.{ReducedHold, RotationsHold}
@@ -56,7 +57,5 @@ pub record IsJudged (input : Input) (texts : List (List ℕ)) (first_line : ℕ)
   pub judged : IsVerdict (Holds input lines) first_line verdict
 
 -- the texts aren't of the form, first at this line
-pub record IsBadAnswerAt (input : Input) (texts : List (List ℕ)) (first_line line : ℕ) : Type 0 where
-  pub number : ℕ
-  pub misplaced : IsMisplaced input texts number
-  pub at : line ≡ first_line + number
+abbrev pub IsBadAnswerAt : Input → List (List ℕ) → (first_line line : ℕ) → Type 0
+IsBadAnswerAt input texts first_line line = IsFirstBadAt (BeginAnAnswer input) (MakeAnAnswer input) texts first_line line

@@ -16,7 +16,7 @@ returns-then-not-branch-clause-fault c =
     let before = c.lines.pairs in
     let text = take (span.stop - span.start) (drop span.start bytes) in
     record {
-      k = length (lines_so_far before);
+      number = length (lines_so_far before);
       bad = bad_line input c.requires.input (texts_from bytes c.args.from) before c.take_text.new.pairs text (texts_from bytes span.next) c.lines.invariant.in_turn
           (subst (AreTaken input (texts_from bytes c.args.from) before) (texts_from-step bytes c.lines.at span c.in-Some.ensures) c.lines.invariant.taken)
           (subst (TakesText input before c.take_text.new.pairs text) c.if-not-branch.true c.in_ok-take_text.ensures);
@@ -55,7 +55,7 @@ returns-in-Left c =
     record {
       given = tt;
       fault = record {
-        k = length (lines_so_far c.lines.pairs);
+        number = length (lines_so_far c.lines.pairs);
         bad = missing_end input c.requires.input texts c.lines.pairs (subst (AreTaken input texts c.lines.pairs) (texts_from-over c.args.bytes.now c.lines.at c.in_default.ensures) c.lines.invariant.taken)
             (⊎_elim (λ e. ap end_so_far e) (λ e. ap end_so_far e) c.in-Left.is);
         there = c.lines.invariant.number;
