@@ -5,6 +5,7 @@ pub mod Reduced
 pub mod Levels
 pub mod Pairing
 pub mod Cycles
+pub mod Footings
 pub mod Laws
 pub mod Vectors
 pub mod Limits

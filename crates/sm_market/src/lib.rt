@@ -12,6 +12,7 @@
 mod blocking;
 mod entries;
 mod faults;
+mod footing;
 pub mod laws;
 mod market;
 mod pairing;
@@ -19,6 +20,7 @@ mod reduced;
 pub mod witnesses;
 
 pub use faults::{MarketFault, PairingFault, Side};
+pub use footing::Footing;
 pub use market::Market;
-pub use pairing::{Pairing, next_in};
+pub use pairing::{Pairing, next_in, place_from};
 pub use reduced::is_between;

@@ -5,9 +5,11 @@ ghost use Rattle.sm_market.specs.Lists.{row, entry, place_of, IsMarket};
 ghost use Rattle.sm_market.specs.Matching.{held};
 ghost use Rattle.sm_market.specs.Pairing.{paired, IsPairingOf};
 ghost use Rattle.sm_market.specs.Cycles.{target_at, places_after, CanTurn};
+ghost use Rattle.sm_market.specs.Footings.{AreNewFootings};
 ghost use Rattle.sm_market.specs.PairingFaults.{IsPairingFault, AreHeld, IsPastList, IsFirstPastList, IsFirstTaken};
 
 use crate::faults::PairingFault;
+use crate::footing::Footing;
 use crate::market::Market;
 use std::alloc::{AllocError, Global};
 use std::marker::Model;
@@ -157,6 +159,30 @@ impl Pairing {
             &mut self.holders,
         );
     }
+
+    /// Moves the proposers of a cycle as [`Pairing::turn`] does, where it is known how they and their new reviewers will stand.
+    ///
+    /// The pairing and the cycle have to be as there. For each pair of the cycle `to` has the place of the next pair's
+    /// reviewer on the proposer's list, and the proposer's place on that one's. Takes no memory, and time in proportion to
+    /// the cycle.
+    pub fn turn_to(&mut self, market: &Market, cycle: &[(u32, u32)], to: &[Footing])
+        requires made { IsPairingOf market.now self.old }
+        requires cycle { CanTurn market.now self.old.places cycle.now }
+        requires to { AreNewFootings market.now cycle.now to.now }
+        ensures moved { self.new.places.proposers
+            ≡ places_after market.now self.old.places.proposers cycle.now }
+        ensures made { IsPairingOf market.now self.new }
+    {
+        prove_eq!(self.places.len(), market.proposers() as usize);
+        turn_round_to(
+            market,
+            cycle,
+            to,
+            &mut self.places,
+            &mut self.reviewer_places,
+            &mut self.holders,
+        );
+    }
 }
 
 /// The first proposer whose place is past its list.
@@ -251,6 +277,34 @@ fn turn_round(
     }
 }
 
+/// Moves each proposer of a cycle to the reviewer of the next pair, to places that are known.
+fn turn_round_to(
+    market: &Market,
+    cycle: &[(u32, u32)],
+    to: &[Footing],
+    places: &mut [Option<u32>],
+    reviewer_places: &mut [Option<u32>],
+    holders: &mut [Option<u32>],
+)
+    requires market { IsMarket market.now }
+    requires made { IsPairingOf market.now (paired places.old reviewer_places.old holders.old) }
+    requires cycle { CanTurn market.now (paired places.old reviewer_places.old holders.old).places
+        cycle.now }
+    requires to { AreNewFootings market.now cycle.now to.now }
+    ensures moved { places.new ≡ places_after market.now places.old cycle.now }
+    ensures made { IsPairingOf market.now (paired places.new reviewer_places.new holders.new) }
+{
+    let _ = market;
+    for i in 0..cycle.len() {
+        let p = cycle[i].0;
+        let target = cycle[next_in(i, cycle.len())].1;
+        let Footing { proposer, reviewer } = to[i];
+        places[p as usize] = Some(proposer);
+        reviewer_places[target as usize] = Some(reviewer);
+        holders[target as usize] = Some(p);
+    }
+}
+
 /// The number of the pair that follows pair `i` round a cycle of `size` pairs. Pairs are numbered from 0. Takes constant time.
 pub fn next_in(i: usize, size: usize) -> usize
     requires { i < size }
@@ -259,8 +313,9 @@ pub fn next_in(i: usize, size: usize) -> usize
     if i + 1 == size { 0 } else { i + 1 }
 }
 
-/// The place of `r`, who is listed, on `p`'s list, looked for from a place on and then before it.
-fn place_from(market: &Market, p: u32, from: u32, r: u32) -> u32
+/// The place of `r`, who is listed, on `p`'s list, looked for from a place on and then before it. All are numbered from 0. Takes
+/// no memory, and time in proportion to the places that are passed.
+pub fn place_from(market: &Market, p: u32, from: u32, r: u32) -> u32
     requires in_range { p < length market.now.proposers }
     requires listed { place_of market.now.proposers p r < length (row market.now.proposers p) }
     requires on_list { from < length (row market.now.proposers p) }

@@ -1,17 +1,17 @@
 -- Lists of moves, and how they grow.
-use Rattle.std.proofs.Common.{◌≡◌, ℕ, suc, ◌+◌, ◌<◌, ◌≤◌, ◌++◌, ◌∷◌, [], inl, inr, arith, refl, sym, ap, ◌∙◌, subst, List, Option, Some, length, None, IsSome, unwrap_or, Contains, set}
-use Rattle.std.proofs.lemmas.List.{get_or_append_left, get_or_push, length_push, get_or-set_same, get_or-set_other, get_or_past}
+use Rattle.std.proofs.Common.{◌≡◌, ℕ, ◌+◌, ◌<◌, ◌≤◌, ◌++◌, ◌∷◌, [], inl, inr, arith, refl, sym, ap, ◌∙◌, subst, List, length, slice_index, Contains, set}
+use Rattle.std.proofs.lemmas.List.{get_or_append_left, get_or_push, length_push, length-set, get_or-set_same, get_or-set_other, get_or_past}
 use Rattle.std.proofs.lemmas.List.Elements.{Contains-append_left, Contains-append_right}
-use Rattle.sm_market.specs.Lists.{Lists, place_of, IsMarket}
-use Rattle.sm_market.specs.Matching.{Places, held}
+use Rattle.sm_market.specs.Lists.{Lists, row, place_of, IsMarket}
+use Rattle.sm_market.specs.Matching.{Places}
 use Rattle.sm_lists.proofs.Counting.{lt_or_le, eq_or_ne}
 use Rattle.sm_lists.proofs.ItemLemmas.{push_cases}
 use Rattle.sm_market.proofs.CycleLemmas.{AreDistinct, pair_at_is}
 use Rattle.sm_theory.specs.Rotations.{proposer_at, target_at, pair_of}
-use Rattle.sm_theory.specs.Chains.{rotation_at, stage, IsCompleteChain}
+use Rattle.sm_theory.specs.Chains.{rotation_at, IsCompleteChain}
 use Rattle.sm_poset.specs.Moves.{IsMove, rotation_of, place_to, AreMovesOf, GoDown, moves_at}
-use Rattle.sm_poset.specs.Kept.{AreMovesAfter}
-use Rattle.sm_poset.proofs.ChainLemmas.{proposer_at-pair_of, move_holds, move_on_list, further}
+use Rattle.sm_poset.specs.Kept.{AreMovesAfter, ArePlacesOf}
+use Rattle.sm_poset.proofs.ChainLemmas.{proposer_at-pair_of, move_on_list, further}
 
 -- nothing moves before the first rotation
 pub no_moves_yet : (l : Lists) (rotations : List (List (ℕ × ℕ))) (p : ℕ) → AreMovesOf l rotations 0 p []
@@ -71,24 +71,17 @@ moves_more {l} {rotations} {k} {p} {i} {moves} w v = record {
         let same : q ≡ i = u.place ∙ ap (λ n. place_of l.proposers p (target_at (rotation_at rotations n) (pair_of (rotation_at rotations n) p))) e ∙ sym v.place in
         (0, omega arith, λ t. (sym e t, sym same t))
 
--- who holds a place is in range
-pub some_in_range : (places : List (Option ℕ)) (p : ℕ) → IsSome (held places p) → p < length places
-some_in_range places p some = elim (lt_or_le p (length places)) [
-  | inl less ↦ less
-  | inr past ↦ absurd (let none = get_or_past places p None past in grind arith)
-]
-
 -- the moves of all once one more proposer of a rotation has got one
-pub moved_step : {rotation : List (ℕ × ℕ)} {places : List (Option ℕ)} (lists before : List (List (ℕ × ℕ))) (k i p place : ℕ) (items : List (ℕ × ℕ)) → AreDistinct rotation → i < length rotation
-    → proposer_at rotation i ≡ p → p < length lists → items ≡ moves_at lists p ++ (k, place) ∷ [] → Some place ≡ held places p
-    → ((q : ℕ) → AreMovesAfter k rotation places i q (moves_at before q) (moves_at lists q))
-    → (q : ℕ) → AreMovesAfter k rotation places (i + 1) q (moves_at before q) (moves_at (set lists p items) q)
-moved_step {rotation} {places} lists before k i p place items distinct h is lt pushed there w q = elim (eq_or_ne q p) [
+pub moved_step : {l : Lists} {rotation : List (ℕ × ℕ)} (lists before : List (List (ℕ × ℕ))) (k i p place : ℕ) (items : List (ℕ × ℕ)) → AreDistinct rotation → i < length rotation
+    → proposer_at rotation i ≡ p → p < length lists → items ≡ moves_at lists p ++ (k, place) ∷ [] → place ≡ place_of l.proposers p (target_at rotation i)
+    → ((q : ℕ) → AreMovesAfter l k rotation i q (moves_at before q) (moves_at lists q))
+    → (q : ℕ) → AreMovesAfter l k rotation (i + 1) q (moves_at before q) (moves_at (set lists p items) q)
+moved_step {l} {rotation} lists before k i p place items distinct h is lt pushed there w q = elim (eq_or_ne q p) [
   | inl e ↦
       let pair : pair_of rotation q ≡ i = ap (pair_of rotation) (e ∙ sym is) ∙ pair_at_is distinct i h in
       let now : moves_at (set lists p items) q ≡ items = ap (moves_at (set lists p items)) e ∙ get_or-set_same lists p items [] lt in
       let was : moves_at lists p ≡ moves_at before q = ap (moves_at lists) (sym e) ∙ (w q).same (omega arith) in
-      let at : place ≡ unwrap_or (held places q) 0 = ap (λ o. unwrap_or o 0) there ∙ ap (λ a. unwrap_or (held places a) 0) (sym e) in
+      let at : place ≡ place_of l.proposers q (target_at rotation (pair_of rotation q)) = there ∙ ap (λ a. place_of l.proposers a (target_at rotation i)) (sym e) ∙ ap (λ n. place_of l.proposers q (target_at rotation n)) (sym pair) in
       record {
         one_more = λ _. now ∙ pushed ∙ ap (λ (x : List (ℕ × ℕ)). x ++ (k, place) ∷ []) was ∙ ap (λ a. moves_at before q ++ (k, a) ∷ []) at;
         same = λ g. absurd (omega arith);
@@ -104,20 +97,40 @@ moved_step {rotation} {places} lists before k i p place items distinct h is lt p
       }
 ]
 
-module _ {l : Lists} (h : IsMarket l) {first : Places} {rotations : List (List (ℕ × ℕ))} (chain : IsCompleteChain l first rotations) where
-  -- the moves once rotation k is eliminated and each of its proposers has got one more
-  pub moved_on : {k p : ℕ} {before after : List (ℕ × ℕ)} → k < length rotations → AreMovesOf l rotations k p before
-      → AreMovesAfter k (rotation_at rotations k) (stage l first rotations (suc k)).proposers (length (rotation_at rotations k)) p before after
-      → AreMovesOf l rotations (k + 1) p after
-  moved_on {k} {p} {before} {after} g w v = elim (lt_or_le (pair_of (rotation_at rotations k) p) (length (rotation_at rotations k))) [
-    | inr out ↦ rw (v.same out) (moves_past w out)
-    | inl inside ↦
-        let i : ℕ = place_of l.proposers p (target_at (rotation_at rotations k) (pair_of (rotation_at rotations k) p)) in
-        let move : IsMove l rotations p k i = record { moved = inside; place = refl } in
-        let place : unwrap_or (held (stage l first rotations (suc k)).proposers p) 0 ≡ i = ap (λ o. unwrap_or o 0) (move_holds h chain p k i g move) in
-        rw (v.one_more inside, place) (moves_more w move)
-  ]
+-- the moves once each proposer of rotation k has got one more
+pub moved_on : {l : Lists} {rotations : List (List (ℕ × ℕ))} {k p : ℕ} {before after : List (ℕ × ℕ)} → AreMovesOf l rotations k p before
+    → AreMovesAfter l k (rotation_at rotations k) (length (rotation_at rotations k)) p before after → AreMovesOf l rotations (k + 1) p after
+moved_on {l} {rotations} {k} {p} {before} {after} w v = elim (lt_or_le (pair_of (rotation_at rotations k) p) (length (rotation_at rotations k))) [
+  | inr out ↦ rw (v.same out) (moves_past w out)
+  | inl inside ↦
+      let move : IsMove l rotations p k (place_of l.proposers p (target_at (rotation_at rotations k) (pair_of (rotation_at rotations k) p))) = record { moved = inside; place = refl } in
+      rw (v.one_more inside) (moves_more w move)
+]
 
+-- the places from which the next ones are looked for
+module _ {l : Lists} {at : List ℕ} (w : ArePlacesOf l at) (p : ℕ) (place : ℕ) (on : place < length (row l.proposers p)) where
+  pub places_set : ArePlacesOf l (set at p place)
+  places_set = record {
+    one_each = length-set at p place ∙ w.one_each;
+    on_list = λ q some. elim (eq_or_ne q p) [
+      | inl e ↦ elim (lt_or_le p (length at)) [
+        | inl less ↦ rw (e, get_or-set_same at p place 0 less) on
+        | inr more ↦ rw (e, get_or_past (set at p place) p 0 (omega (arith, length-set at p place, more))) (omega (arith, on))
+      ]
+      | inr ne ↦ rw (get_or-set_other at p q place 0 ne) (w.on_list q some)
+    ];
+  }
+
+-- each moved proposer's place is noted
+pub there_more : (l : Lists) (rotation : List (ℕ × ℕ)) (at : List ℕ) (i p place : ℕ) → AreDistinct rotation → i < length rotation → proposer_at rotation i ≡ p → p < length at → place ≡ place_of l.proposers p (target_at rotation i)
+    → ((j : ℕ) → j < i → slice_index at (proposer_at rotation j) ≡ place_of l.proposers (proposer_at rotation j) (target_at rotation j))
+    → (j : ℕ) → j < i + 1 → slice_index (set at p place) (proposer_at rotation j) ≡ place_of l.proposers (proposer_at rotation j) (target_at rotation j)
+there_more l rotation at i p place distinct inside is lt there w j less = elim (eq_or_ne j i) [
+  | inl e ↦ rw (e, is) (get_or-set_same at p place 0 lt ∙ there)
+  | inr ne ↦ get_or-set_other at p (proposer_at rotation j) place 0 (λ e. distinct.distinct j i (omega arith) inside (e ∙ sym is)) ∙ w j (omega arith)
+]
+
+module _ {l : Lists} (h : IsMarket l) {first : Places} {rotations : List (List (ℕ × ℕ))} (chain : IsCompleteChain l first rotations) where
   -- the moves go down p's list
   pub go_down : {p : ℕ} {moves : List (ℕ × ℕ)} → AreMovesOf l rotations (length rotations) p moves → GoDown l p moves
   go_down {p} {moves} w = record {

@@ -1,8 +1,7 @@
 -- What a `Poset` keeps beside the market and the chain.
-use Rattle.std.specs.Prelude.{◌≡◌, ℕ, ◌<◌, ◌≤◌, ◌++◌, ◌∷◌, [], List, Option, length, slice_index_or, unwrap_or}
-use Rattle.sm_market.specs.Lists.{Lists, row}
-use Rattle.sm_market.specs.Matching.{held}
-use Rattle.sm_theory.specs.Rotations.{pair_of}
+use Rattle.std.specs.Prelude.{◌≡◌, ℕ, ◌<◌, ◌≤◌, ◌++◌, ◌∷◌, [], List, length, slice_index, slice_index_or}
+use Rattle.sm_market.specs.Lists.{Lists, row, place_of}
+use Rattle.sm_theory.specs.Rotations.{pair_of, target_at}
 use Rattle.sm_theory.specs.Chains.{AreNeedsOf}
 use Rattle.sm_poset.specs.Posets.{RotationPoset, IsPoset}
 use Rattle.sm_poset.specs.Moves.{IsMove, AreMoves}
@@ -21,8 +20,13 @@ pub record IsKept (poset : RotationPoset) (needs : List (List ℕ)) (moves : Lis
   pub moves_are : AreMoves poset.lists poset.rotations (length poset.rotations) moves
   pub leaders_are : AreLeaders poset.lists poset.rotations (length poset.rotations) leaders
 
--- the moves of p once the proposers of the first i pairs of a rotation have got one more: that of rotation k, to the place
--- that each holds
-pub record AreMovesAfter (k : ℕ) (rotation : List (ℕ × ℕ)) (places : List (Option ℕ)) (i p : ℕ) (before after : List (ℕ × ℕ)) : Type 0 where
-  pub one_more : pair_of rotation p < i → after ≡ before ++ (k, unwrap_or (held places p) 0) ∷ []
+-- a place on the list of each proposer that lists somebody
+pub record ArePlacesOf (l : Lists) (at : List ℕ) : Type 0 where
+  pub one_each : length at ≡ length l.proposers
+  pub on_list : (p : ℕ) → 0 < length (row l.proposers p) → slice_index at p < length (row l.proposers p)
+
+-- the moves of p once the proposers of the first i pairs of a rotation have got one more: that of rotation k, to the place of
+-- the reviewer of the next pair
+pub record AreMovesAfter (l : Lists) (k : ℕ) (rotation : List (ℕ × ℕ)) (i p : ℕ) (before after : List (ℕ × ℕ)) : Type 0 where
+  pub one_more : let pair = pair_of rotation p in pair < i → after ≡ before ++ (k, place_of l.proposers p (target_at rotation pair)) ∷ []
   pub same : i ≤ pair_of rotation p → after ≡ before

@@ -1,18 +1,16 @@
 //! The moves of each proposer, found by going down the chain once.
 
-ghost use Rattle.std.specs.Prelude.{◌≡◌, ◌≢◌, ℕ, ◌<◌, length, replicate, [], IfOk, OnOk, IsSome};
-ghost use Rattle.sm_market.specs.Lists.{IsMarket};
+ghost use Rattle.std.specs.Prelude.{◌≡◌, ◌≢◌, ℕ, ◌<◌, length, replicate, [], slice_index, IfOk, OnOk};
+ghost use Rattle.sm_market.specs.Lists.{row, place_of, IsMarket};
 ghost use Rattle.sm_market.specs.Limits.{IsWithinLimits};
-ghost use Rattle.sm_market.specs.Matching.{held};
 ghost use Rattle.sm_market.specs.Pairing.{IsPairingOf};
-ghost use Rattle.sm_theory.specs.Rotations.{proposer_at};
+ghost use Rattle.sm_theory.specs.Rotations.{proposer_at, target_at};
 ghost use Rattle.sm_theory.specs.Chains.{IsCompleteChain};
 ghost use Rattle.sm_theory.specs.Values.{rotations_of};
-ghost use Rattle.sm_poset.specs.Kept.{AreLeaders, AreMovesAfter};
+ghost use Rattle.sm_poset.specs.Kept.{AreLeaders, AreMovesAfter, ArePlacesOf};
 ghost use Rattle.sm_poset.specs.Moves.{AreMoves, moves_at, moves_in};
 
-use sm_market::{Market, Pairing};
-use sm_rotations::eliminate;
+use sm_market::{Market, Pairing, next_in, place_from};
 use sm_theory::Chain;
 use std::alloc::{AllocError, Global};
 
@@ -24,7 +22,8 @@ pub(crate) struct Moves {
     pub(crate) leaders: Vec<(u32, u32)>,
 }
 
-/// Follows a chain from its first matching to its last and notes what its rotations move.
+/// Follows a chain from its first matching to its last and notes what its rotations move. No matching but the first is looked
+/// at: a rotation tells itself to whom it moves its proposers.
 pub(crate) fn follow(alloc: Global, market: &Market, chain: &Chain) -> Result<Moves, AllocError>
     requires made { IsPairingOf market.now chain.now.first }
     requires complete { IsCompleteChain market.now chain.now.first.places
@@ -39,13 +38,13 @@ pub(crate) fn follow(alloc: Global, market: &Market, chain: &Chain) -> Result<Mo
 {
     let mut of_proposers = no_moves(alloc, market.proposers() as usize)?;
     let mut leaders = Vec::with_capacity(alloc, chain.rotations.len())?;
-    let mut m = chain.first.copy(alloc)?;
+    let mut at = places_in(alloc, market, &chain.first)?;
+    let at = at.as_mut_slice();
     for k in 0..chain.rotations.len() as u32 {
         let rotation = &chain.rotations[k as usize];
-        eliminate(market, &mut m, rotation);
-        add_moves(k, &rotation.pairs, &m, &mut of_proposers)?;
+        add_moves(market, k, &rotation.pairs, at, &mut of_proposers)?;
         let leader = rotation.pairs[0].0;
-        leaders.push((leader, place_in(&m, leader)))?;
+        leaders.push((leader, at[leader as usize]))?;
     }
     Ok(Moves {
         of_proposers,
@@ -64,32 +63,50 @@ fn no_moves(alloc: Global, proposers: usize) -> Result<Vec<Vec<(u32, u32)>>, All
     Ok(moves)
 }
 
-/// Gives each proposer of rotation `k` one more move, to the place that it holds.
-fn add_moves(
-    k: u32,
-    rotation: &[(u32, u32)],
-    m: &Pairing,
-    moves: &mut [Vec<(u32, u32)>],
-) -> Result<(), AllocError>
-    requires one_each { length m.now.places.proposers ≡ length moves.old }
-    requires matched { (i : ℕ) → i < length rotation.now
-        → IsSome (held m.now.places.proposers (proposer_at rotation.now i)) }
-    requires distinct { (i j : ℕ) → i < j → j < length rotation.now → proposer_at rotation.now i
-        ≢ proposer_at rotation.now j }
-    ensures { OnOk result ((p : ℕ) → AreMovesAfter k rotation.now m.now.places.proposers
-        (length rotation.now) p
-        (moves_at (moves_in moves.old) p) (moves_at (moves_in moves.new) p)) }
+/// The places that the proposers hold, 0 for who is unmatched.
+fn places_in(alloc: Global, market: &Market, m: &Pairing) -> Result<Vec<u32>, AllocError>
+    requires made { IsPairingOf market.now m.now }
+    ensures { IfOk result (λ at. ArePlacesOf market.now at.items) }
 {
-    for &(p, _) in rotation {
-        moves[p as usize].push((k, place_in(m, p)))?;
+    let mut at = Vec::with_capacity(alloc, market.proposers() as usize)?;
+    for p in 0..market.proposers() {
+        at.push(m.place(p).unwrap_or(0))?;
     }
-    Ok(())
+    Ok(at)
 }
 
-/// The place that a matched proposer holds.
-fn place_in(m: &Pairing, p: u32) -> u32
-    requires { IsSome (held m.now.places.proposers p) }
-    ensures { Some result ≡ held m.now.places.proposers p }
+/// Gives each proposer of rotation `k` one more move, to the place of the next pair's reviewer on its list, which is looked for
+/// from the place to which it was moved before.
+fn add_moves(
+    market: &Market,
+    k: u32,
+    rotation: &[(u32, u32)],
+    at: &mut [u32],
+    moves: &mut [Vec<(u32, u32)>],
+) -> Result<(), AllocError>
+    requires one_each { length market.now.proposers ≡ length moves.old }
+    requires places { ArePlacesOf market.now at.old }
+    requires in_range { (i : ℕ) → i < length rotation.now → proposer_at rotation.now i
+        < length market.now.proposers }
+    requires listed { (i : ℕ) → i < length rotation.now
+        → place_of market.now.proposers (proposer_at rotation.now i) (target_at rotation.now i)
+        < length (row market.now.proposers (proposer_at rotation.now i)) }
+    requires distinct { (i j : ℕ) → i < j → j < length rotation.now → proposer_at rotation.now i
+        ≢ proposer_at rotation.now j }
+    ensures places { OnOk result (ArePlacesOf market.now at.new) }
+    ensures there { OnOk result ((i : ℕ) → i < length rotation.now
+        → slice_index at.new (proposer_at rotation.now i)
+        ≡ place_of market.now.proposers (proposer_at rotation.now i) (target_at rotation.now i)) }
+    ensures moves { OnOk result ((p : ℕ)
+        → AreMovesAfter market.now k rotation.now (length rotation.now) p
+        (moves_at (moves_in moves.old) p) (moves_at (moves_in moves.new) p)) }
 {
-    m.place(p).unwrap()
+    for i in 0..rotation.len() {
+        let p = rotation[i].0;
+        let target = rotation[next_in(i, rotation.len())].1;
+        let place = place_from(market, p, at[p as usize], target);
+        at[p as usize] = place;
+        moves[p as usize].push((k, place))?;
+    }
+    Ok(())
 }

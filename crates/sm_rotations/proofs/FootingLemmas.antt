@@ -5,15 +5,16 @@ use Rattle.sm_market.specs.Lists.{Lists, row, place_of, IsMarket}
 use Rattle.sm_market.specs.Matching.{Places, standing, IsMatching}
 use Rattle.sm_market.proofs.Bridge.{fit_of}
 use Rattle.sm_lists.proofs.Counting.{eq_or_ne}
-use Rattle.sm_theory.specs.Rotations.{IsExposed, proposer_at, reviewer_at, target_at, next_in, eliminated}
+use Rattle.sm_theory.specs.Rotations.{WouldTake, IsExposed, proposer_at, reviewer_at, target_at, next_in, eliminated}
 use Rattle.sm_theory.proofs.Core.Cycle.{turn, turn_in}
 use Rattle.sm_theory.proofs.Core.Rotation.{new_pair}
 use Rattle.sm_theory.proofs.Bridge.Rotation.{exposed_of, elim_of}
+use Rattle.sm_successors.proofs.NextLemmas.{first_is}
 -- whom an exposed rotation moves, passed on
 pub use Rattle.sm_theory.proofs.Bridge.Rotation.{proposer_in, target_in}
 use Rattle.sm_rotations.specs.Marking.{IsFoundNeed}
 use Rattle.sm_rotations.specs.Footings.{footing_at, AreFootings, AreSteps, IsFoundAlong}
-use Rattle.sm_rotations.specs.declared.predecessors.Footing.{Footing}
+use Rattle.sm_market.specs.declared.footing.Footing.{Footing}
 
 -- one more pair
 pub footings_more : {l : Lists} {m : Places} {rotation : List (ℕ × ℕ)} {i : ℕ} {footings : List Footing} (f : Footing) → f.proposer ≡ standing l.proposers m.proposers (proposer_at rotation i) → f.reviewer ≡ standing l.reviewers m.reviewers (target_at rotation i)
@@ -36,10 +37,22 @@ footings_more {i = i} {footings} f one two a = record {
     old : (k : ℕ) → k < i → footing_at (footings ++ f ∷ []) k ≡ footing_at footings k
     old k less = get_or_append_left footings (f ∷ []) (record { proposer = 0; reviewer = 0 }) k (omega (arith, a.one_each))
 
--- the footings before and after an exposed rotation is eliminated are its steps
-pub steps_of : {l : Lists} {m n : Places} {rotation : List (ℕ × ℕ)} {before after : List Footing} → IsMatching l m → IsExposed l m rotation → AreFootings l m rotation (length rotation) before
-    → n ≡ eliminated l m rotation → AreFootings l n rotation (length rotation) after → AreSteps l rotation before after
-steps_of {m = m} f x b is a = record { was = m; matching = f; exposed = x; before_are = b; after_are = rw is at a }
+-- how those whom an exposed rotation moves will stand
+module _ {l : Lists} (h : IsMarket l) {m : Places} (f : IsMatching l m) {rotation : List (ℕ × ℕ)} (x : IsExposed l m rotation) (i : ℕ) (a : i < length rotation) where
+  -- the first behind its partner that would take a proposer of the rotation is the reviewer of the next pair
+  pub taker_is : {k : ℕ} → ((j : ℕ) → standing l.proposers m.proposers (proposer_at rotation i) < j → j < k → ¬ WouldTake l m (proposer_at rotation i) j)
+      → (k < length (row l.proposers (proposer_at rotation i)) → standing l.proposers m.proposers (proposer_at rotation i) < k)
+      → (k < length (row l.proposers (proposer_at rotation i)) → WouldTake l m (proposer_at rotation i) k)
+      → k ≡ place_of l.proposers (proposer_at rotation i) (target_at rotation i)
+  taker_is passed behind takes = first_is (x.next i a) passed behind takes
+
+  -- there a proposer will stand
+  pub moves_to : standing l.proposers (eliminated l m rotation).proposers (proposer_at rotation i) ≡ place_of l.proposers (proposer_at rotation i) (target_at rotation i)
+  moves_to = (elim_of h f x).moved i a
+
+  -- and that reviewer will have the proposer
+  pub rises_to : standing l.reviewers (eliminated l m rotation).reviewers (target_at rotation i) ≡ place_of l.reviewers (target_at rotation i) (proposer_at rotation i)
+  rises_to = sym ((new_pair (fit_of h f) (exposed_of h f x) (elim_of h f x) i a).rank_is)
 
 module _ {l : Lists} (h : IsMarket l) {rotation : List (ℕ × ℕ)} {before after : List Footing} (w : AreSteps l rotation before after) (i : ℕ) (a : i < length rotation) where
   -- its proposers go down from the reviewers of their pairs to the next ones

@@ -2,11 +2,13 @@ pub mod ChainLemmas
 pub mod MarkingLemmas
 pub mod CountLemmas
 pub mod NeedsLemmas
+pub mod NotingLemmas
 pub mod FootingLemmas
 pub mod FollowingLemmas
 pub mod ChainingLemmas
 pub mod WalkLemmas
 pub mod StackLemmas
+pub mod FoundLemmas
 pub mod WalkSteps
 pub mod OrderLemmas
 pub mod TurnLemmas

@@ -7,7 +7,7 @@ use Rattle.sm_theory.specs.Rotations.{proposer_at}
 pub use Rattle.sm_theory.proofs.Chains.Marking.{marked_step, adds_none, adds_one, adds_join, adds_like, between_wider, between_split}
 use Rattle.sm_rotations.specs.Marking.{note_of, marks_of, IsBetween, Adds}
 use Rattle.sm_rotations.specs.Footings.{footing_at, IsFoundAlong}
-use Rattle.sm_rotations.specs.declared.predecessors.Footing.{Footing}
+use Rattle.sm_market.specs.declared.footing.Footing.{Footing}
 
 -- what is marked at the next place is added
 pub between_some : {marks : List (Option ℕ)} {from to : ℕ} {xs ys : List ℕ} (x : ℕ) → from < to → note_of marks to ≡ Some x → Adds (λ i. IsBetween marks from to i) xs ys → Adds (λ i. IsBetween marks from (to + 1) i) xs (ys ++ x ∷ [])

@@ -144,15 +144,6 @@ back_more {followers} {before} {after} {i} w f = record {
 }
 
 module _ {l : Lists} {rotations : List (List (ℕ × ℕ))} {followers : List (List ℕ)} where
-  -- nobody follows yet
-  pub followers_start : length followers ≡ length rotations → ((i : ℕ) → row followers i ≡ []) → AreFollowers l rotations 0 followers
-  followers_start long empty = record {
-    one_each = long;
-    sound = λ i j some. absurd (let none : times (row followers i) j ≡ 0 = ap (λ xs. times xs j) (empty i) in omega arith);
-    all = λ i j below. absurd (omega arith);
-    once = λ i j. let none : times (row followers i) j ≡ 0 = ap (λ xs. times xs j) (empty i) in omega arith;
-  }
-
   -- the followers are among the rotations that were taken
   pub followers_lower : {n : ℕ} → AreFollowers l rotations n followers → (i a : ℕ) → a < length (row followers i) → slice_index_or (row followers i) a 0 < n
   followers_lower f i a inside =

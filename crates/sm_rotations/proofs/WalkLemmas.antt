@@ -12,8 +12,13 @@ use Rattle.sm_theory.proofs.Core.Cycle.{Succ, turn_last, turn_more}
 use Rattle.sm_theory.proofs.Core.Rotation.{goes_down, never_up, keeps, never_worse, elim_fit}
 use Rattle.sm_theory.proofs.Core.Dichotomy.{step, step_on}
 use Rattle.sm_theory.proofs.Bridge.Rotation.{succ_back, exposed_of, elim_of, eliminated_stable}
+use Rattle.sm_successors.proofs.NextLemmas.{first_is}
 use Rattle.sm_rotations.proofs.FollowingLemmas.{pair_of_held, succ_at}
 use Rattle.sm_rotations.specs.Walking.{IsNext, IsAtWorst, IsStack, AreStackPairs, spot_of}
+
+-- a proposer has one successor
+pub one_place : {l : Lists} {m : Places} {p i j : ℕ} → IsSuccessor l m p i → IsSuccessor l m p j → i ≡ j
+one_place x y = first_is y x.first (λ _. x.behind) (λ _. x.takes)
 
 module _ {l : Lists} (h : IsMarket l) {m : Places} (s : IsStable l m) where
   -- a proposer is finished where it has no successor, or where the one that has its successor is finished
@@ -42,31 +47,43 @@ module _ {l : Lists} (h : IsMarket l) {m : Places} (s : IsStable l m) where
     worst_kept p w = record { worst = λ n sn. omega (arith, w.worst n sn, never_up (stable_of h s).fit (exposed_of h s.matching x) (elim_of h s.matching x) p) }
 
     -- whom a rotation leaves alone keeps its successor, where it leaves that one's proposer alone too
-    pub next_kept : (p q : ℕ) → ((i : ℕ) → i < length rotation → proposer_at rotation i ≡ p → ⊥) → ((i : ℕ) → i < length rotation → proposer_at rotation i ≡ q → ⊥) → IsNext l m p q → IsNext l (eliminated l m rotation) p q
-    next_kept p q no_p no_q w =
-        let hm = stable_of h s in
-        let z = exposed_of h s.matching x in
-        let e = elim_of h s.matching x in
-        let t : ℕ = w.target in
-        let old = succ_at h s.matching p t w.next in
-        let pair = pair_of_held h s.matching q t w.has in
-        let fit = elim_fit hm.fit z e in
-        let still : standing l.reviewers (eliminated l m rotation).reviewers t ≡ standing l.reviewers m.reviewers t = keeps hm.fit z e t (λ i less is. no_q i less (one_proposer (rw is at (z.paired i less)) pair)) in
-        let same : standing l.proposers (eliminated l m rotation).proposers p ≡ standing l.proposers m.proposers p = e.still p no_p in
-        let same' : standing l.proposers (eliminated l m rotation).proposers q ≡ standing l.proposers m.proposers q = e.still q no_q in
-        let new : Succ (sides_of l h) (stand_of l (eliminated l m rotation)) p t = record {
-          on = old.on;
-          behind = omega (arith, old.behind);
-          takes = omega (arith, old.takes);
-          first = λ r a b. omega (arith, old.first r (omega (arith, a)) b, never_worse hm.fit z e r);
-          matched = omega (arith, old.matched);
-        } in
-        let pair' = pair_at q t fit (omega (arith, pair.matched)) (pair.place_is ∙ sym same') in
-        record {
-          target = t;
-          next = succ_back h {m = eliminated l m rotation} p t new;
-          has = held_at l.proposers (eliminated l m rotation).proposers q pair'.matched ∙ ap Some (sym pair'.place_is);
-        }
+    module _ (p q : ℕ) (no_p : (i : ℕ) → i < length rotation → proposer_at rotation i ≡ p → ⊥) (no_q : (i : ℕ) → i < length rotation → proposer_at rotation i ≡ q → ⊥) (w : IsNext l m p q) where
+      target_kept : Succ (sides_of l h) (stand_of l (eliminated l m rotation)) p w.target
+      target_kept =
+          let hm = stable_of h s in
+          let z = exposed_of h s.matching x in
+          let e = elim_of h s.matching x in
+          let t : ℕ = w.target in
+          let old = succ_at h s.matching p t w.next in
+          let pair = pair_of_held h s.matching q t w.has in
+          let still : standing l.reviewers (eliminated l m rotation).reviewers t ≡ standing l.reviewers m.reviewers t = keeps hm.fit z e t (λ i less is. no_q i less (one_proposer (rw is at (z.paired i less)) pair)) in
+          let same : standing l.proposers (eliminated l m rotation).proposers p ≡ standing l.proposers m.proposers p = e.still p no_p in
+          record {
+            on = old.on;
+            behind = omega (arith, old.behind);
+            takes = omega (arith, old.takes);
+            first = λ r a b. omega (arith, old.first r (omega (arith, a)) b, never_worse hm.fit z e r);
+            matched = omega (arith, old.matched);
+          }
+
+      -- the one that has it stays the same
+      pub next_kept : IsNext l (eliminated l m rotation) p q
+      next_kept =
+          let hm = stable_of h s in
+          let e = elim_of h s.matching x in
+          let pair = pair_of_held h s.matching q w.target w.has in
+          let fit = elim_fit hm.fit (exposed_of h s.matching x) e in
+          let same' : standing l.proposers (eliminated l m rotation).proposers q ≡ standing l.proposers m.proposers q = e.still q no_q in
+          let pair' = pair_at q w.target fit (omega (arith, pair.matched)) (pair.place_is ∙ sym same') in
+          record {
+            target = w.target;
+            next = succ_back h {m = eliminated l m rotation} p w.target target_kept;
+            has = held_at l.proposers (eliminated l m rotation).proposers q pair'.matched ∙ ap Some (sym pair'.place_is);
+          }
+
+      -- and so does the place where it stands
+      pub place_kept : {i : ℕ} → IsSuccessor l m p i → IsSuccessor l (eliminated l m rotation) p i
+      place_kept y = let same = one_place w.next y in rw (← same) (succ_back h {m = eliminated l m rotation} p w.target target_kept)
 
   -- where all are finished nothing is exposed
   pub all_worst : ((p : ℕ) → IsAtWorst l m p) → (rotation : List (ℕ × ℕ)) → ¬ IsExposed l m rotation

@@ -39,10 +39,9 @@ pub record HasFollowers (l : Lists) (first : Places) (rotations : List (List (�
   pub are : AreFollowers l rotations (length rotations) followers
 
 -- a complete chain and the followers of its rotations, as they are held
-pub has_followers : {l : Lists} {first : Places} (values slice : List Rotation) (vectors lists : List (Vec ℕ Global)) → slice ≡ values → lists ≡ vectors → IsMarket l → IsCompleteChain l first (rotations_of values)
-    → AreFollowers l (rotations_of values) (length values) (rows_of vectors) → HasFollowers l first (rotations_of slice) (rows_of lists)
-has_followers {l} {first} values slice vectors lists is same h chain are =
-    rw (is, same) (record { market = h; chain = chain; are = rw (as_many values) are })
+pub has_followers : {l : Lists} {first : Places} (rotations : List Rotation) (followers : List (Vec ℕ Global)) → IsMarket l → IsCompleteChain l first (rotations_of rotations)
+    → AreFollowers l (rotations_of rotations) (length rotations) (rows_of followers) → HasFollowers l first (rotations_of rotations) (rows_of followers)
+has_followers rotations followers h chain are = record { market = h; chain = chain; are = rw (as_many rotations) are }
 
 module _ {l : Lists} {first : Places} {rotations : List (List (ℕ × ℕ))} {followers : List (List ℕ)} (u : HasFollowers l first rotations followers) where
   -- with nothing written the heap has what is ready at first

@@ -5,3 +5,4 @@ pub mod Following
 pub mod Chaining
 pub mod Walking
 pub mod Ordering
+pub mod Noting

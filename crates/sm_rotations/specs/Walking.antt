@@ -3,7 +3,7 @@ use Rattle.std.specs.Prelude.{◌≡◌, ℕ, ◌+◌, ◌<◌, ◌≤◌, ◌�
 use Rattle.sm_market.specs.Lists.{Lists, place_of}
 use Rattle.sm_market.specs.Matching.{Places, held, standing}
 use Rattle.sm_market.specs.Stable.{IsStable}
-use Rattle.sm_theory.specs.Rotations.{IsExposed, proposer_at, reviewer_at}
+use Rattle.sm_theory.specs.Rotations.{IsSuccessor, IsExposed, proposer_at, reviewer_at}
 -- who has whose successor, passed on
 pub use Rattle.sm_theory.specs.Rotations.{IsNext}
 use Rattle.sm_theory.specs.Chains.{rotation_at, stage}
@@ -94,3 +94,13 @@ abbrev pub IsWalkStep : Lists → Places → List ℕ → List (Option ℕ) → 
 IsWalkStep l m stack spots finished Over = IsTopAtWorst l m stack
 IsWalkStep l m stack spots finished (On q) = CanFollowTop l m stack spots finished q
 IsWalkStep l m stack spots finished (Back from) = LeadsBack l m stack from
+
+-- the successors of all proposers on the stack but the last n stand where the search for them ended
+pub record AreFound (l : Lists) (m : Places) (stack : List ℕ) (n : ℕ) (from : List ℕ) : Type 0 where
+  pub each : (k : ℕ) → k + n < length stack → IsSuccessor l m (slice_index stack k) (slice_index from (slice_index stack k))
+
+-- so they do behind a step, that of the top too unless it is over
+abbrev pub IsFoundStep : Lists → Places → List ℕ → List ℕ → WalkStep → Type 0
+IsFoundStep l m stack from Over = AreFound l m stack 1 from
+IsFoundStep l m stack from (On q) = AreFound l m stack 0 from
+IsFoundStep l m stack from (Back spot) = AreFound l m stack 0 from

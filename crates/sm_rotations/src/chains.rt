@@ -7,6 +7,7 @@ ghost use Rattle.sm_market.specs.Vectors.{rows_of};
 ghost use Rattle.sm_theory.specs.Chains.{IsPrintedChain, AreNeeds};
 ghost use Rattle.sm_theory.specs.Values.{rotations_of};
 
+use crate::notes::Notes;
 use crate::order::{ChainWithNeeds, in_order};
 use crate::walk::walk;
 use sm_market::{Market, Pairing};
@@ -39,8 +40,8 @@ pub fn chain(alloc: Global, market: &Market, best: &Pairing) -> Result<Chain, Al
 /// The complete chain of rotations, as [`chain`] gives it, with what each rotation needs, as [`needs`](crate::needs) finds it
 /// of that chain.
 ///
-/// A walk with one stack of proposers along successors finds the rotations, and a heap puts them into their order. What each
-/// one needs is found once, before that, and takes its new numbers on the way. Takes time and memory in proportion to the
+/// A walk with one stack of proposers along successors finds the rotations and what each one needs, and a heap puts them into
+/// their order, in which the needs take their new numbers. Takes time and memory in proportion to the
 /// agents, the entries and the predecessors of the rotations, up to a logarithm in the number of rotations (Gusfield and
 /// Irving 1989, section 2.5 and chapter 3).
 ///
@@ -61,9 +62,8 @@ pub fn chain_with_needs(
     ensures needs { IfOk result (λ found. AreNeeds market.now
         (rotations_of found.chain.rotations.items) (rows_of found.needs.items)) }
 {
-    let found = Chain {
-        first: best.copy(alloc)?,
-        rotations: walk(alloc, market, best)?,
-    };
-    in_order(alloc, market, &found)
+    let mut notes = Notes::of(alloc, market)?;
+    let rotations = walk(alloc, market, best, &mut notes)?;
+    let followers = notes.into_followers();
+    in_order(alloc, market, best, &rotations, &followers)
 }

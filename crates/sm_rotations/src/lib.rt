@@ -7,7 +7,9 @@
 
 mod chains;
 mod exposure;
+mod footings;
 mod graph;
+mod notes;
 mod order;
 mod predecessors;
 mod walk;

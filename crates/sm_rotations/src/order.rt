@@ -7,12 +7,11 @@ ghost use Rattle.sm_market.specs.Vectors.{rows_of};
 ghost use Rattle.sm_market.specs.Pairing.{IsPairingOf};
 ghost use Rattle.sm_theory.specs.Chains.{rotation_at, IsCompleteChain, IsPrintedChain, AreNeeds};
 ghost use Rattle.sm_theory.specs.Values.{rotations_of};
-ghost use Rattle.sm_rotations.specs.Graph.{times};
+ghost use Rattle.sm_rotations.specs.Graph.{times, AreFollowers};
 ghost use Rattle.sm_rotations.specs.Ordering.{later_first, IsLowestPair, IsTurned, IsOneMore, AreReadyAtFirst, IsReleased};
 
 use crate::graph::{add_once, counts, empty_lists};
-use crate::predecessors::followers;
-use sm_market::Market;
+use sm_market::{Market, Pairing};
 use sm_theory::{Chain, Rotation};
 use std::alloc::{AllocError, Global};
 use std::cmp::Reverse;
@@ -38,11 +37,12 @@ struct Written {
 /// The chain with its rotations in the stated order, and what each one needs: at each turn the exposed rotation that has the
 /// lowest-numbered proposer comes first, and each rotation begins with its lowest-numbered proposer.
 ///
-/// Any complete chain will do. At each turn the exposed rotations are those that are left over and whose predecessors have
-/// all been written; they wait in a heap, by their lowest proposers. Whatever is written is noted at once, by its new number,
-/// with those that need it, so that what each one needs comes out rising. Takes time in proportion to the agents and entries,
-/// and to the rotations times a logarithm, and memory in proportion to the agents and entries (Gusfield and Irving 1989,
-/// section 2.5 and chapter 3).
+/// Any complete chain from the first matching will do, with those that need each rotation. At each turn the exposed rotations
+/// are those that are left over and whose predecessors have all been written; they wait in a heap, by their lowest proposers.
+/// Whatever is written is noted at once, by its new number, with those that need it, so that what each one needs comes out
+/// rising. Takes time in proportion to the pairs of the rotations and to their predecessors, and to the rotations times a
+/// logarithm, and memory in proportion to the agents, the pairs and the predecessors (Gusfield and Irving 1989, section 2.5
+/// and chapter 3).
 ///
 /// # Errors
 ///
@@ -50,42 +50,49 @@ struct Written {
 pub(crate) fn in_order(
     alloc: Global,
     market: &Market,
-    chain: &Chain,
+    first: &Pairing,
+    rotations: &[Rotation],
+    followers: &[Vec<u32>],
 ) -> Result<ChainWithNeeds, AllocError>
-    requires made { IsPairingOf market.now chain.now.first }
-    requires complete { IsCompleteChain market.now chain.now.first.places
-        (rotations_of chain.now.rotations.items) }
+    requires made { IsPairingOf market.now first.now }
+    requires complete { IsCompleteChain market.now first.now.places (rotations_of rotations.now) }
+    requires followers { AreFollowers market.now (rotations_of rotations.now) (length rotations.now)
+        (rows_of followers.now) }
     ensures made { IfOk result (λ c. IsPairingOf market.now c.chain.first) }
-    ensures first { IfOk result (λ c. c.chain.first.places ≡ chain.now.first.places) }
-    ensures chain { IfOk result (λ c. IsPrintedChain market.now chain.now.first.places
+    ensures first { IfOk result (λ c. c.chain.first.places ≡ first.now.places) }
+    ensures chain { IfOk result (λ c. IsPrintedChain market.now first.now.places
         (rotations_of c.chain.rotations.items)) }
     ensures needs { IfOk result (λ c. AreNeeds market.now (rotations_of c.chain.rotations.items)
         (rows_of c.needs.items)) }
 {
-    let first = chain.first.copy(alloc)?;
-    let Written { rotations, needs } = ordered(alloc, market, chain)?;
+    let Written { rotations, needs } = ordered(alloc, market, first, rotations, followers)?;
+    let first = first.copy(alloc)?;
     let chain = Chain { first, rotations };
     Ok(ChainWithNeeds { chain, needs })
 }
 
 /// The rotations of a chain in the stated order, and what each one needs.
-fn ordered(alloc: Global, market: &Market, chain: &Chain) -> Result<Written, AllocError>
-    requires made { IsPairingOf market.now chain.now.first }
-    requires complete { IsCompleteChain market.now chain.now.first.places
-        (rotations_of chain.now.rotations.items) }
-    ensures chain { IfOk result (λ o. IsPrintedChain market.now chain.now.first.places
+fn ordered(
+    alloc: Global,
+    market: &Market,
+    first: &Pairing,
+    rotations: &[Rotation],
+    followers: &[Vec<u32>],
+) -> Result<Written, AllocError>
+    requires made { IsPairingOf market.now first.now }
+    requires complete { IsCompleteChain market.now first.now.places (rotations_of rotations.now) }
+    requires followers { AreFollowers market.now (rotations_of rotations.now) (length rotations.now)
+        (rows_of followers.now) }
+    ensures chain { IfOk result (λ o. IsPrintedChain market.now first.now.places
         (rotations_of o.rotations.items)) }
     ensures needs { IfOk result (λ o. AreNeeds market.now (rotations_of o.rotations.items)
         (rows_of o.needs.items)) }
 {
     prove!(market.proposers() < 1 << 24);
-    let followers = followers(alloc, market, chain)?;
-    let mut unmet = counts(alloc, &followers)?;
+    let mut unmet = counts(alloc, followers)?;
     let mut noted = empty_lists(alloc, followers.len())?;
-    let followers = followers.as_slice();
     let unmet = unmet.as_mut_slice();
     let noted = noted.as_mut_slice();
-    let rotations = chain.rotations.as_slice();
     let mut ready = ready_at_first(alloc, rotations, unmet)?;
     let mut written = Vec::with_capacity(alloc, rotations.len())?;
     let mut needs = Vec::with_capacity(alloc, rotations.len())?;

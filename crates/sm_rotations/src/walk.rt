@@ -1,21 +1,24 @@
-//! Some complete chain of rotations, found by a walk along successors.
+//! Some complete chain of rotations, found by a walk along successors and noted on the way.
 //!
 //! Each proposer's successor is looked for along its list, from where it was looked for before. Reviewers never get worse
 //! partners by an elimination, so that no entry is passed twice.
 
-ghost use Rattle.std.specs.Prelude.{◌≡◌, ◌≢◌, ℕ, ◌-◌, ◌<◌, ◌≤◌, ◌++◌, ◌∷◌, [], length, take, Some, None, true, false, IfOk, OnOk, replicate, slice_index, slice_set};
+ghost use Rattle.std.specs.Prelude.{◌≡◌, ◌≢◌, ℕ, ◌-◌, ◌<◌, ◌≤◌, ◌++◌, ◌∷◌, [], length, take, Some, None, true, false, IfOk, OnOk, replicate, slice_index, slice_set, MatchOption};
 ghost use Rattle.sm_market.specs.Lists.{place_of, IsMarket};
 ghost use Rattle.sm_market.specs.Matching.{held};
 ghost use Rattle.sm_market.specs.Stable.{IsStable, IsProposersBest};
 ghost use Rattle.sm_market.specs.Pairing.{IsPairingOf};
+ghost use Rattle.sm_theory.specs.Rotations.{IsSuccessor, IsNext};
 ghost use Rattle.sm_theory.specs.Chains.{IsCompleteChain};
 ghost use Rattle.sm_theory.specs.Values.{rotations_of};
 ghost use Rattle.sm_successors.specs.Search.{IsSearchAt};
-ghost use Rattle.sm_rotations.specs.Walking.{IsAtWorst, IsStack, AreStackPairs, AreTakenOff, is_finished, spot_of, IsTopTakenOff, IsWalkStep, LeadsBack};
+ghost use Rattle.sm_rotations.specs.Noting.{AreNoted};
+ghost use Rattle.sm_rotations.specs.Walking.{IsAtWorst, IsStack, AreFound, IsFoundStep, AreStackPairs, AreTakenOff, is_finished, spot_of, IsTopTakenOff, IsWalkStep, LeadsBack};
 
+use crate::notes::Notes;
 use sm_market::{Market, Pairing};
-use sm_successors::next_proposer;
-use sm_theory::{Rotation, eliminate};
+use sm_successors::first_taker;
+use sm_theory::Rotation;
 use std::alloc::{AllocError, Global};
 
 /// What the walk does next.
@@ -47,8 +50,8 @@ struct WalkStack {
 /// the top has no successor, or the proposer that has it is finished, no stable matching is worse for the top, and it is
 /// finished too (Gusfield and Irving 1989, chapter 3, in a form of this project's own).
 ///
-/// A rotation begins with that proposer of it that was put on the stack first. Each entry of the market is passed at most
-/// once, so the time is in proportion to the agents and entries. So is the memory, which is for the agents and the rotations.
+/// A rotation begins with that proposer of it that was put on the stack first, and each one is noted as it is eliminated. Each
+/// entry of the market is passed at most once, so the time is in proportion to the agents and entries. So is the memory.
 ///
 /// # Errors
 ///
@@ -57,11 +60,15 @@ pub(crate) fn walk(
     alloc: Global,
     market: &Market,
     best: &Pairing,
+    notes: &mut Notes,
 ) -> Result<Vec<Rotation>, AllocError>
     requires made { IsPairingOf market.now best.now }
     requires best { IsProposersBest market.now best.now.places }
+    requires none { AreNoted market.now best.now.places [] notes.old }
     ensures chain { IfOk result (λ rotations. IsCompleteChain market.now best.now.places
         (rotations_of rotations.items)) }
+    ensures noted { IfOk result (λ rotations. AreNoted market.now best.now.places
+        (rotations_of rotations.items) notes.new) }
 {
     let mut m = best.copy(alloc)?;
     let mut trail = WalkStack::new(alloc, market.proposers() as usize)?;
@@ -75,7 +82,7 @@ pub(crate) fn walk(
                 WalkStep::On(q) => trail.put_on(q)?,
                 WalkStep::Back(spot) => {
                     let rotation = trail.take_off(alloc, market, &m, spot)?;
-                    eliminate(market, &mut m, &rotation);
+                    notes.eliminate(alloc, market, &mut m, &rotation, from)?;
                     rotations.push(rotation)?;
                 }
             }
@@ -85,19 +92,21 @@ pub(crate) fn walk(
 }
 
 /// What the walk does next, while `p` isn't finished. Where the stack is empty, `p` is put on it. `from` has how far the
-/// successors were looked for.
+/// successors were looked for, and where those of all on the stack but its top stand.
 fn walk_step(market: &Market, m: &Pairing, trail: &WalkStack, from: &mut [u32], p: u32) -> WalkStep
     requires in_range { p < length market.now.proposers }
     requires market { IsMarket market.now }
     requires made { IsPairingOf market.now m.now }
     requires stable { IsStable market.now m.now.places }
     requires search { IsSearchAt market.now m.now.places from.old }
+    requires found { AreFound market.now m.now.places trail.now.stack.items 1 from.old }
     requires stack { IsStack market.now m.now.places trail.now.stack.items trail.now.spots.items }
     requires finished_each { length trail.now.finished.items ≡ length market.now.proposers }
     requires at_worst { (q : ℕ) → is_finished trail.now.finished.items q ≡ true
         → IsAtWorst market.now m.now.places q }
     requires unfinished { is_finished trail.now.finished.items p ≡ false }
     ensures search { IsSearchAt market.now m.now.places from.new }
+    ensures found { IsFoundStep market.now m.now.places trail.now.stack.items from.new result }
     ensures step { IsWalkStep market.now m.now.places trail.now.stack.items trail.now.spots.items
         trail.now.finished.items result }
 {
@@ -105,7 +114,7 @@ fn walk_step(market: &Market, m: &Pairing, trail: &WalkStack, from: &mut [u32], 
         return WalkStep::On(p);
     }
     let top = trail.top();
-    let Some(q) = next_proposer(market, m, top, from) else {
+    let Some(q) = next_found(market, m, top, from) else {
         return WalkStep::Over;
     };
     if trail.is_finished(q) {
@@ -115,6 +124,29 @@ fn walk_step(market: &Market, m: &Pairing, trail: &WalkStack, from: &mut [u32], 
         None => WalkStep::On(q),
         Some(spot) => WalkStep::Back(spot),
     }
+}
+
+/// The proposer that has `p`'s successor, if there is one. `from` has how far the successors were looked for, and then the place
+/// where this one stands.
+fn next_found(market: &Market, m: &Pairing, p: u32, from: &mut [u32]) -> Option<u32>
+    requires in_range { p < length market.now.proposers }
+    requires made { IsPairingOf market.now m.now }
+    requires search { IsSearchAt market.now m.now.places from.old }
+    ensures search { IsSearchAt market.now m.now.places from.new }
+    ensures others { (q : ℕ) → q ≢ p → slice_index from.new q ≡ slice_index from.old q }
+    ensures next { MatchOption result
+        ((i : ℕ) → ¬ IsSuccessor market.now m.now.places p i)
+        (λ q. IsNext market.now m.now.places p q) }
+    ensures found { (q : ℕ) → result ≡ Some q
+        → IsSuccessor market.now m.now.places p (slice_index from.new p) }
+    ensures in_range { MatchOption result (Unit {0}) (λ q. q < length market.now.proposers) }
+{
+    let place = first_taker(market, m, p, from[p as usize]);
+    from[p as usize] = place;
+    if place >= market.proposer_len(p) {
+        return None;
+    }
+    m.holder(market.reviewer_at(p, place))
 }
 
 impl WalkStack {

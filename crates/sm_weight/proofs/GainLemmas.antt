@@ -1,6 +1,8 @@
 -- The gain of a rotation, read of what its proposers hold before and after.
-use Rattle.std.proofs.Common.{◌≡◌, ℕ, zero, suc, ◌<◌, arith, refl, ap, ◌∙◌, List, length, Option, Some, IsSome, ℤ, ◌-ℤ◌}
+use Rattle.std.proofs.Common.{◌≡◌, ℕ, zero, suc, ◌<◌, inl, inr, arith, refl, ap, ◌∙◌, List, length, Option, None, Some, IsSome, ℤ, ◌-ℤ◌}
 use Rattle.std.proofs.lemmas.Int.{ints}
+use Rattle.std.proofs.lemmas.List.{get_or_past}
+use Rattle.sm_lists.proofs.Counting.{lt_or_le}
 use Rattle.sm_market.specs.Lists.{Lists, place_of, IsMarket}
 use Rattle.sm_market.specs.Matching.{Places, held, IsMatching}
 use Rattle.sm_market.specs.Stable.{IsStable}
@@ -23,6 +25,13 @@ places_weighed w m p i e = let on = m.proposers.on_list p i e in omega (arith, w
 -- who is said to hold a place holds some place
 some_held : (places : List (Option ℕ)) (p i : ℕ) → held places p ≡ Some i → IsSome (held places p)
 some_held places p i e = rw e refl
+
+-- who holds a place is in range
+pub some_in_range : (places : List (Option ℕ)) (p : ℕ) → IsSome (held places p) → p < length places
+some_in_range places p some = elim (lt_or_le p (length places)) [
+  | inl less ↦ less
+  | inr past ↦ absurd (let none = get_or_past places p None past in grind arith)
+]
 
 module _ {l : Lists} (h : IsMarket l) {m : Places} (s : IsStable l m) {rotation : List (ℕ × ℕ)} (x : IsExposed l m rotation) where
   after_is : (i : ℕ) → i < length rotation → held (eliminated l m rotation).proposers (proposer_at rotation i) ≡ Some (place_of l.proposers (proposer_at rotation i) (target_at rotation i))

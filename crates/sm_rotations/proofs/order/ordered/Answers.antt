@@ -6,10 +6,10 @@ use Rattle.sm_market.specs.Lists.{row}
 use Rattle.sm_market.specs.Vectors.{rows_of}
 use Rattle.sm_theory.specs.Chains.{rotation_at, IsPrintedChain}
 use Rattle.sm_theory.specs.Values.{rotations_of}
-use Rattle.sm_theory.proofs.Bridge.Chain.{eliminable_of}
 use Rattle.sm_rotations.specs.Graph.{AreCounts}
 use Rattle.sm_rotations.specs.Ordering.{IsTurned, AreReadyAtFirst}
 use Rattle.sm_rotations.proofs.AddingLemmas.{row-replicate}
+use Rattle.sm_rotations.proofs.CountLemmas.{few_rotations}
 use Rattle.sm_rotations.proofs.TurnedBackLemmas.{followers_in_range, followers_lower}
 use Rattle.sm_rotations.proofs.ChainingLemmas.{rotations_of-push, few_places}
 use Rattle.sm_rotations.proofs.NeedsLemmas.{as_many}
@@ -17,64 +17,65 @@ use Rattle.sm_rotations.proofs.WrittenLemmas.{nil_of, pairs_at, has_followers, w
 use Rattle.sm_rotations.proofs.RenumberLemmas.{renumbered_start, lower_still, renumbered_more, needs_written}
 use Rattle.sm_rotations.proofs.order.ordered.Goals as goal
 
-pub followers-requires-clause-eliminable : goal.followers-requires-clause-eliminable
-followers-requires-clause-eliminable c = eliminable_of c.requires.complete
+pub counts-requires-clause-few : goal.counts-requires-clause-few
+counts-requires-clause-few c =
+    let few = few_rotations c.proposers.ensures.market c.proposers.ensures.limits c.requires.complete in
+    omega (arith, few, as_many c.args.rotations.now, c.requires.followers.one_each, length-map c.args.followers.now (λ v. v.items))
 
 pub counts-requires-clause-in_range : goal.counts-requires-clause-in_range
 counts-requires-clause-in_range c =
-    let many = as_many c.args.chain.now.rotations.items in
-    let long : length (rows_of c.in_ok-followers.followers.items) ≡ length c.in_ok-followers.followers.items = length-map c.in_ok-followers.followers.items (λ v. v.items) in
-    rw c.deref.ensures.value (λ i a inside. omega (arith, followers_in_range c.in_ok-followers.ensures.followers (omega (arith, many)) i a inside, long))
+    let long : length (rows_of c.args.followers.now) ≡ length c.args.followers.now = length-map c.args.followers.now (λ v. v.items) in
+    λ i a inside. omega (arith, followers_in_range c.requires.followers (omega (arith, as_many c.args.rotations.now)) i a inside, long)
 
 pub counts-requires-clause-once : goal.counts-requires-clause-once
-counts-requires-clause-once c = rw c.deref.ensures.value c.in_ok-followers.ensures.followers.once
+counts-requires-clause-once c = c.requires.followers.once
 
 pub ready_at_first-requires-clause-few : goal.ready_at_first-requires-clause-few
-ready_at_first-requires-clause-few c = omega (arith, c.in_ok-followers.ensures.few, ap length c.as_slice-rotations.ensures.value)
+ready_at_first-requires-clause-few c = omega (arith, few_rotations c.proposers.ensures.market c.proposers.ensures.limits c.requires.complete, as_many c.args.rotations.now)
 
 pub steps-init : goal.steps-init
 steps-init c =
-    let u = has_followers c.args.chain.now.rotations.items c.as_slice-rotations.result.now c.in_ok-followers.followers.items c.as_slice-followers.result.now c.as_slice-rotations.ensures.value c.as_slice-followers.ensures.value c.proposers.ensures.market c.requires.complete c.in_ok-followers.ensures.followers in
-    let long : length (rows_of c.in_ok-followers.followers.items) ≡ length c.in_ok-followers.followers.items = length-map c.in_ok-followers.followers.items (λ v. v.items) in
-    let counts : AreCounts (rows_of c.as_slice-followers.result.now) (length (rows_of c.as_slice-followers.result.now)) c.as_mut_slice-unmet.result.now = rw (c.as_mut_slice-unmet.ensures.value, c.as_slice-followers.ensures.value, long) (rw c.deref.ensures.value at c.in_ok-unmet.ensures) in
-    let first : AreReadyAtFirst (rotations_of c.as_slice-rotations.result.now) c.as_mut_slice-unmet.result.now (length (rotations_of c.as_slice-rotations.result.now)) (heap_items c.in_ok-ready.ready) = rw (as_many c.as_slice-rotations.result.now) c.in_ok-ready.ensures.ready in
+    let u = has_followers c.args.rotations.now c.args.followers.now c.proposers.ensures.market c.requires.complete c.requires.followers in
+    let long : length (rows_of c.args.followers.now) ≡ length c.args.followers.now = length-map c.args.followers.now (λ v. v.items) in
+    let counts : AreCounts (rows_of c.args.followers.now) (length (rows_of c.args.followers.now)) c.as_mut_slice-unmet.result.now = rw (c.as_mut_slice-unmet.ensures.value, long) c.in_ok-unmet.ensures in
+    let first : AreReadyAtFirst (rotations_of c.args.rotations.now) c.as_mut_slice-unmet.result.now (length (rotations_of c.args.rotations.now)) (heap_items c.in_ok-ready.ready) = rw (as_many c.args.rotations.now) c.in_ok-ready.ensures.ready in
     let none = ap rotations_of c.in_ok-written.ensures.items in
-    let empty : rows_of c.as_mut_slice-noted.result.now ≡ replicate c.len.result [] = ap rows_of c.as_mut_slice-noted.ensures.value ∙ c.in_ok-noted.ensures in
-    let each : length (rows_of c.as_mut_slice-noted.result.now) ≡ length (rotations_of c.as_slice-rotations.result.now) =
-    omega (arith, ap length empty, length-replicate {A = List ℕ} c.len.result [], c.len.ensures, long, u.are.one_each, ap length (ap rows_of c.as_slice-followers.ensures.value)) in
+    let empty : rows_of c.as_mut_slice-noted.result.now ≡ replicate (length c.args.followers.now) [] = ap rows_of c.as_mut_slice-noted.ensures.value ∙ c.in_ok-noted.ensures in
+    let each : length (rows_of c.as_mut_slice-noted.result.now) ≡ length (rotations_of c.args.rotations.now) =
+    omega (arith, ap length empty, length-replicate {A = List ℕ} (length c.args.followers.now) [], long, u.are.one_each) in
     record {
       order = c.in_ok-ready.ensures.order;
       written = written_start u c.as_mut_slice-unmet.result.now (heap_items c.in_ok-ready.ready) none counts first;
-      renumbered = renumbered_start none (ap rows_of c.in_ok-needs.ensures.items) each (λ k. rw empty (row-replicate c.len.result k));
+      renumbered = renumbered_start none (ap rows_of c.in_ok-needs.ensures.items) each (λ k. rw empty (row-replicate (length c.args.followers.now) k));
       few = rw none (omega arith);
     }
 
 pub overflow_cast-number : goal.overflow_cast-number
 overflow_cast-number c =
     let number : c.len-number.result ≡ length (rotations_of c.steps.written.items) = omega (arith, c.len-number.ensures, as_many c.steps.written.items) in
-    omega (arith, number, c.steps.invariant.few, few_places c.args.chain.now.first.places c.proposers.ensures.limits)
+    omega (arith, number, c.steps.invariant.few, few_places c.args.first.now.places c.proposers.ensures.limits)
 
 pub bounds-rotations-k : goal.bounds-rotations-k
 bounds-rotations-k c =
-    let u = has_followers c.args.chain.now.rotations.items c.as_slice-rotations.result.now c.in_ok-followers.followers.items c.as_slice-followers.result.now c.as_slice-rotations.ensures.value c.as_slice-followers.ensures.value c.proposers.ensures.market c.requires.complete c.in_ok-followers.ensures.followers in
+    let u = has_followers c.args.rotations.now c.args.followers.now c.proposers.ensures.market c.requires.complete c.requires.followers in
     let w = c.steps.invariant.written in
     let x = c.in-Some.field-0 in
     let popped = c.in-Some.ensures.permutation in
-    omega (arith, popped_in_range u w x popped, as_many c.as_slice-rotations.result.now)
+    omega (arith, popped_in_range u w x popped, as_many c.args.rotations.now)
 
 pub turned-requires : goal.turned-requires
 turned-requires c =
-    let u = has_followers c.args.chain.now.rotations.items c.as_slice-rotations.result.now c.in_ok-followers.followers.items c.as_slice-followers.result.now c.as_slice-rotations.ensures.value c.as_slice-followers.ensures.value c.proposers.ensures.market c.requires.complete c.in_ok-followers.ensures.followers in
+    let u = has_followers c.args.rotations.now c.args.followers.now c.proposers.ensures.market c.requires.complete c.requires.followers in
     let w = c.steps.invariant.written in
     let x = c.in-Some.field-0 in
     let popped = c.in-Some.ensures.permutation in
-    let inside : c.in-Some.field-0.0.1 < length c.as_slice-rotations.result.now = omega (arith, popped_in_range u w x popped, as_many c.as_slice-rotations.result.now) in
-    let pairs : c.deref-in-Some.result.now ≡ rotation_at (rotations_of c.as_slice-rotations.result.now) c.in-Some.field-0.0.1 = c.deref-in-Some.ensures.value ∙ pairs_at c.as_slice-rotations.result.now c.in-Some.field-0.0.1 c.index-rotations-k.result inside in
+    let inside : c.in-Some.field-0.0.1 < length c.args.rotations.now = omega (arith, popped_in_range u w x popped, as_many c.args.rotations.now) in
+    let pairs : c.deref.result.now ≡ rotation_at (rotations_of c.args.rotations.now) c.in-Some.field-0.0.1 = c.deref.ensures.value ∙ pairs_at c.args.rotations.now c.in-Some.field-0.0.1 c.index-rotations-k.result inside in
     rw pairs (popped_some u w x popped)
 
 pub bounds-noted-k : goal.bounds-noted-k
 bounds-noted-k c =
-    let u = has_followers c.args.chain.now.rotations.items c.as_slice-rotations.result.now c.in_ok-followers.followers.items c.as_slice-followers.result.now c.as_slice-rotations.ensures.value c.as_slice-followers.ensures.value c.proposers.ensures.market c.requires.complete c.in_ok-followers.ensures.followers in
+    let u = has_followers c.args.rotations.now c.args.followers.now c.proposers.ensures.market c.requires.complete c.requires.followers in
     let w = c.steps.invariant.written in
     let x = c.in-Some.field-0 in
     let popped = c.in-Some.ensures.permutation in
@@ -83,86 +84,86 @@ bounds-noted-k c =
 
 pub bounds-followers-k : goal.bounds-followers-k
 bounds-followers-k c =
-    let u = has_followers c.args.chain.now.rotations.items c.as_slice-rotations.result.now c.in_ok-followers.followers.items c.as_slice-followers.result.now c.as_slice-rotations.ensures.value c.as_slice-followers.ensures.value c.proposers.ensures.market c.requires.complete c.in_ok-followers.ensures.followers in
+    let u = has_followers c.args.rotations.now c.args.followers.now c.proposers.ensures.market c.requires.complete c.requires.followers in
     let w = c.steps.invariant.written in
     let x = c.in-Some.field-0 in
     let popped = c.in-Some.ensures.permutation in
-    let there : c.in-Some.field-0.0.1 < length c.as_slice-followers.result.now = omega (arith, popped_in_range u w x popped, u.are.one_each, length-map c.as_slice-followers.result.now (λ v. v.items)) in
+    let there : c.in-Some.field-0.0.1 < length c.args.followers.now = omega (arith, popped_in_range u w x popped, u.are.one_each, length-map c.args.followers.now (λ v. v.items)) in
     there
 
 pub add_once-requires-clause-in_range : goal.add_once-requires-clause-in_range
 add_once-requires-clause-in_range c =
-    let u = has_followers c.args.chain.now.rotations.items c.as_slice-rotations.result.now c.in_ok-followers.followers.items c.as_slice-followers.result.now c.as_slice-rotations.ensures.value c.as_slice-followers.ensures.value c.proposers.ensures.market c.requires.complete c.in_ok-followers.ensures.followers in
+    let u = has_followers c.args.rotations.now c.args.followers.now c.proposers.ensures.market c.requires.complete c.requires.followers in
     let w = c.steps.invariant.written in
     let x = c.in-Some.field-0 in
     let popped = c.in-Some.ensures.permutation in
-    let there : c.in-Some.field-0.0.1 < length c.as_slice-followers.result.now = omega (arith, popped_in_range u w x popped, u.are.one_each, length-map c.as_slice-followers.result.now (λ v. v.items)) in
-    let those : c.as_slice-those.result.now ≡ row (rows_of c.as_slice-followers.result.now) c.in-Some.field-0.0.1 = row_read c.as_slice-followers.result.now c.in-Some.field-0.0.1 c.index-followers-k.result c.as_slice-those.result.now there c.index-followers-k.is c.as_slice-those.ensures.value in
+    let there : c.in-Some.field-0.0.1 < length c.args.followers.now = omega (arith, popped_in_range u w x popped, u.are.one_each, length-map c.args.followers.now (λ v. v.items)) in
+    let those : c.as_slice-those.result.now ≡ row (rows_of c.args.followers.now) c.in-Some.field-0.0.1 = row_read c.args.followers.now c.in-Some.field-0.0.1 c.index-followers-k.result c.as_slice-those.result.now there c.index-followers-k.is c.as_slice-those.ensures.value in
     let long : length (rows_of c.steps.noted) ≡ length c.steps.noted = length-map c.steps.noted (λ v. v.items) in
     rw those (λ a less. omega (arith, followers_lower u.are c.in-Some.field-0.0.1 a less, c.steps.invariant.renumbered.noted_each, long, length-set c.steps.noted c.in-Some.field-0.0.1 c.replace.new.dest))
 
 pub add_once-requires-clause-lower : goal.add_once-requires-clause-lower
 add_once-requires-clause-lower c =
-    let u = has_followers c.args.chain.now.rotations.items c.as_slice-rotations.result.now c.in_ok-followers.followers.items c.as_slice-followers.result.now c.as_slice-rotations.ensures.value c.as_slice-followers.ensures.value c.proposers.ensures.market c.requires.complete c.in_ok-followers.ensures.followers in
+    let u = has_followers c.args.rotations.now c.args.followers.now c.proposers.ensures.market c.requires.complete c.requires.followers in
     let w = c.steps.invariant.written in
     let x = c.in-Some.field-0 in
     let popped = c.in-Some.ensures.permutation in
-    let g : c.in-Some.field-0.0.1 < length (rotations_of c.as_slice-rotations.result.now) = popped_in_range u w x popped in
+    let g : c.in-Some.field-0.0.1 < length (rotations_of c.args.rotations.now) = popped_in_range u w x popped in
     let taken : rows_of (set c.steps.noted c.in-Some.field-0.0.1 c.replace.new.dest) ≡ set (rows_of c.steps.noted) c.in-Some.field-0.0.1 [] = map-set (λ (v : Vec ℕ Global). v.items) c.steps.noted c.in-Some.field-0.0.1 c.replace.new.dest ∙ ap (λ (v : Vec ℕ Global). set (rows_of c.steps.noted) c.in-Some.field-0.0.1 v.items) c.replace.ensures.after ∙ ap (set (rows_of c.steps.noted) c.in-Some.field-0.0.1) c.new.ensures.items in
     let number : c.len-number.result ≡ length (rotations_of c.steps.written.items) = omega (arith, c.len-number.ensures, as_many c.steps.written.items) in
     rw (taken, number) (lower_still u.market u.chain c.steps.invariant.renumbered c.in-Some.field-0.0.1 g)
 
 pub release-requires-clause-in_range : goal.release-requires-clause-in_range
 release-requires-clause-in_range c =
-    let u = has_followers c.args.chain.now.rotations.items c.as_slice-rotations.result.now c.in_ok-followers.followers.items c.as_slice-followers.result.now c.as_slice-rotations.ensures.value c.as_slice-followers.ensures.value c.proposers.ensures.market c.requires.complete c.in_ok-followers.ensures.followers in
+    let u = has_followers c.args.rotations.now c.args.followers.now c.proposers.ensures.market c.requires.complete c.requires.followers in
     let w = c.steps.invariant.written in
     let x = c.in-Some.field-0 in
     let popped = c.in-Some.ensures.permutation in
-    let there : c.in-Some.field-0.0.1 < length c.as_slice-followers.result.now = omega (arith, popped_in_range u w x popped, u.are.one_each, length-map c.as_slice-followers.result.now (λ v. v.items)) in
-    let those : c.as_slice-those.result.now ≡ row (rows_of c.as_slice-followers.result.now) c.in-Some.field-0.0.1 = row_read c.as_slice-followers.result.now c.in-Some.field-0.0.1 c.index-followers-k.result c.as_slice-those.result.now there c.index-followers-k.is c.as_slice-those.ensures.value in
-    rw those (λ a less. omega (arith, followers_lower u.are c.in-Some.field-0.0.1 a less, as_many c.as_slice-rotations.result.now))
+    let there : c.in-Some.field-0.0.1 < length c.args.followers.now = omega (arith, popped_in_range u w x popped, u.are.one_each, length-map c.args.followers.now (λ v. v.items)) in
+    let those : c.as_slice-those.result.now ≡ row (rows_of c.args.followers.now) c.in-Some.field-0.0.1 = row_read c.args.followers.now c.in-Some.field-0.0.1 c.index-followers-k.result c.as_slice-those.result.now there c.index-followers-k.is c.as_slice-those.ensures.value in
+    rw those (λ a less. omega (arith, followers_lower u.are c.in-Some.field-0.0.1 a less, as_many c.args.rotations.now))
 
 pub release-requires-clause-some : goal.release-requires-clause-some
 release-requires-clause-some c =
-    let u = has_followers c.args.chain.now.rotations.items c.as_slice-rotations.result.now c.in_ok-followers.followers.items c.as_slice-followers.result.now c.as_slice-rotations.ensures.value c.as_slice-followers.ensures.value c.proposers.ensures.market c.requires.complete c.in_ok-followers.ensures.followers in
-    λ k g. (u.chain.exposed k (omega (arith, g, as_many c.as_slice-rotations.result.now))).not_empty
+    let u = has_followers c.args.rotations.now c.args.followers.now c.proposers.ensures.market c.requires.complete c.requires.followers in
+    λ k g. (u.chain.exposed k (omega (arith, g, as_many c.args.rotations.now))).not_empty
 
 pub release-requires-clause-enough : goal.release-requires-clause-enough
 release-requires-clause-enough c =
-    let u = has_followers c.args.chain.now.rotations.items c.as_slice-rotations.result.now c.in_ok-followers.followers.items c.as_slice-followers.result.now c.as_slice-rotations.ensures.value c.as_slice-followers.ensures.value c.proposers.ensures.market c.requires.complete c.in_ok-followers.ensures.followers in
+    let u = has_followers c.args.rotations.now c.args.followers.now c.proposers.ensures.market c.requires.complete c.requires.followers in
     let w = c.steps.invariant.written in
     let x = c.in-Some.field-0 in
     let popped = c.in-Some.ensures.permutation in
-    let there : c.in-Some.field-0.0.1 < length c.as_slice-followers.result.now = omega (arith, popped_in_range u w x popped, u.are.one_each, length-map c.as_slice-followers.result.now (λ v. v.items)) in
-    let those : c.as_slice-those.result.now ≡ row (rows_of c.as_slice-followers.result.now) c.in-Some.field-0.0.1 = row_read c.as_slice-followers.result.now c.in-Some.field-0.0.1 c.index-followers-k.result c.as_slice-those.result.now there c.index-followers-k.is c.as_slice-those.ensures.value in
+    let there : c.in-Some.field-0.0.1 < length c.args.followers.now = omega (arith, popped_in_range u w x popped, u.are.one_each, length-map c.args.followers.now (λ v. v.items)) in
+    let those : c.as_slice-those.result.now ≡ row (rows_of c.args.followers.now) c.in-Some.field-0.0.1 = row_read c.args.followers.now c.in-Some.field-0.0.1 c.index-followers-k.result c.as_slice-those.result.now there c.index-followers-k.is c.as_slice-those.ensures.value in
     rw those (enough_unmet u w x popped)
 
 pub steps-smaller : goal.steps-smaller
 steps-smaller c =
-    let u = has_followers c.args.chain.now.rotations.items c.as_slice-rotations.result.now c.in_ok-followers.followers.items c.as_slice-followers.result.now c.as_slice-rotations.ensures.value c.as_slice-followers.ensures.value c.proposers.ensures.market c.requires.complete c.in_ok-followers.ensures.followers in
+    let u = has_followers c.args.rotations.now c.args.followers.now c.proposers.ensures.market c.requires.complete c.requires.followers in
     let w = c.steps.invariant.written in
     let x = c.in-Some.field-0 in
     let popped = c.in-Some.ensures.permutation in
-    let inside : c.in-Some.field-0.0.1 < length c.as_slice-rotations.result.now = omega (arith, popped_in_range u w x popped, as_many c.as_slice-rotations.result.now) in
-    let pairs : c.deref-in-Some.result.now ≡ rotation_at (rotations_of c.as_slice-rotations.result.now) c.in-Some.field-0.0.1 = c.deref-in-Some.ensures.value ∙ pairs_at c.as_slice-rotations.result.now c.in-Some.field-0.0.1 c.index-rotations-k.result inside in
+    let inside : c.in-Some.field-0.0.1 < length c.args.rotations.now = omega (arith, popped_in_range u w x popped, as_many c.args.rotations.now) in
+    let pairs : c.deref.result.now ≡ rotation_at (rotations_of c.args.rotations.now) c.in-Some.field-0.0.1 = c.deref.ensures.value ∙ pairs_at c.args.rotations.now c.in-Some.field-0.0.1 c.index-rotations-k.result inside in
     let order = (c.in-Some.ensures.heap_order c.steps.invariant.order).1 in
-    let turned : IsTurned (rotation_at (rotations_of c.as_slice-rotations.result.now) c.in-Some.field-0.0.1) c.in_ok-turned.field-0.pairs.items = rw pairs at c.in_ok-turned.ensures in
+    let turned : IsTurned (rotation_at (rotations_of c.args.rotations.now) c.in-Some.field-0.0.1) c.in_ok-turned.field-0.pairs.items = rw pairs at c.in_ok-turned.ensures in
     let more : rotations_of c.push.new.self.items ≡ rotations_of c.steps.written.items ++ c.in_ok-turned.field-0.pairs.items ∷ [] = ap rotations_of c.in_ok-push.ensures.items ∙ rotations_of-push c.steps.written.items c.in_ok-turned.field-0 in
     places_left u w x popped order turned more
 
 pub steps-preserved : goal.steps-preserved
 steps-preserved c =
-    let u = has_followers c.args.chain.now.rotations.items c.as_slice-rotations.result.now c.in_ok-followers.followers.items c.as_slice-followers.result.now c.as_slice-rotations.ensures.value c.as_slice-followers.ensures.value c.proposers.ensures.market c.requires.complete c.in_ok-followers.ensures.followers in
+    let u = has_followers c.args.rotations.now c.args.followers.now c.proposers.ensures.market c.requires.complete c.requires.followers in
     let w = c.steps.invariant.written in
     let x = c.in-Some.field-0 in
     let popped = c.in-Some.ensures.permutation in
-    let inside : c.in-Some.field-0.0.1 < length c.as_slice-rotations.result.now = omega (arith, popped_in_range u w x popped, as_many c.as_slice-rotations.result.now) in
-    let g : c.in-Some.field-0.0.1 < length (rotations_of c.as_slice-rotations.result.now) = popped_in_range u w x popped in
-    let pairs : c.deref-in-Some.result.now ≡ rotation_at (rotations_of c.as_slice-rotations.result.now) c.in-Some.field-0.0.1 = c.deref-in-Some.ensures.value ∙ pairs_at c.as_slice-rotations.result.now c.in-Some.field-0.0.1 c.index-rotations-k.result inside in
-    let there : c.in-Some.field-0.0.1 < length c.as_slice-followers.result.now = omega (arith, popped_in_range u w x popped, u.are.one_each, length-map c.as_slice-followers.result.now (λ v. v.items)) in
-    let those : c.as_slice-those.result.now ≡ row (rows_of c.as_slice-followers.result.now) c.in-Some.field-0.0.1 = row_read c.as_slice-followers.result.now c.in-Some.field-0.0.1 c.index-followers-k.result c.as_slice-those.result.now there c.index-followers-k.is c.as_slice-those.ensures.value in
+    let inside : c.in-Some.field-0.0.1 < length c.args.rotations.now = omega (arith, popped_in_range u w x popped, as_many c.args.rotations.now) in
+    let g : c.in-Some.field-0.0.1 < length (rotations_of c.args.rotations.now) = popped_in_range u w x popped in
+    let pairs : c.deref.result.now ≡ rotation_at (rotations_of c.args.rotations.now) c.in-Some.field-0.0.1 = c.deref.ensures.value ∙ pairs_at c.args.rotations.now c.in-Some.field-0.0.1 c.index-rotations-k.result inside in
+    let there : c.in-Some.field-0.0.1 < length c.args.followers.now = omega (arith, popped_in_range u w x popped, u.are.one_each, length-map c.args.followers.now (λ v. v.items)) in
+    let those : c.as_slice-those.result.now ≡ row (rows_of c.args.followers.now) c.in-Some.field-0.0.1 = row_read c.args.followers.now c.in-Some.field-0.0.1 c.index-followers-k.result c.as_slice-those.result.now there c.index-followers-k.is c.as_slice-those.ensures.value in
     let order = (c.in-Some.ensures.heap_order c.steps.invariant.order).1 in
-    let turned : IsTurned (rotation_at (rotations_of c.as_slice-rotations.result.now) c.in-Some.field-0.0.1) c.in_ok-turned.field-0.pairs.items = rw pairs at c.in_ok-turned.ensures in
+    let turned : IsTurned (rotation_at (rotations_of c.args.rotations.now) c.in-Some.field-0.0.1) c.in_ok-turned.field-0.pairs.items = rw pairs at c.in_ok-turned.ensures in
     let more : rotations_of c.push.new.self.items ≡ rotations_of c.steps.written.items ++ c.in_ok-turned.field-0.pairs.items ∷ [] = ap rotations_of c.in_ok-push.ensures.items ∙ rotations_of-push c.steps.written.items c.in_ok-turned.field-0 in
     let taken : rows_of (set c.steps.noted c.in-Some.field-0.0.1 c.replace.new.dest) ≡ set (rows_of c.steps.noted) c.in-Some.field-0.0.1 [] = map-set (λ (v : Vec ℕ Global). v.items) c.steps.noted c.in-Some.field-0.0.1 c.replace.new.dest ∙ ap (λ (v : Vec ℕ Global). set (rows_of c.steps.noted) c.in-Some.field-0.0.1 v.items) c.replace.ensures.after ∙ ap (set (rows_of c.steps.noted) c.in-Some.field-0.0.1) c.new.ensures.items in
     let number : c.len-number.result ≡ length (rotations_of c.steps.written.items) = omega (arith, c.len-number.ensures, as_many c.steps.written.items) in
@@ -181,13 +182,13 @@ steps-preserved c =
 
 pub returns-clause-chain : goal.returns-clause-chain
 returns-clause-chain c =
-    let u = has_followers c.args.chain.now.rotations.items c.as_slice-rotations.result.now c.in_ok-followers.followers.items c.as_slice-followers.result.now c.as_slice-rotations.ensures.value c.as_slice-followers.ensures.value c.proposers.ensures.market c.requires.complete c.in_ok-followers.ensures.followers in
+    let u = has_followers c.args.rotations.now c.args.followers.now c.proposers.ensures.market c.requires.complete c.requires.followers in
     let empty : heap_items c.steps.ready ≡ [] = nil_of (heap_items c.steps.ready) (sym c.steps.ready.data.ok.0 ∙ c.in_default.ensures.none) in
     written_whole u c.steps.invariant.written empty
 
 pub returns-clause-needs : goal.returns-clause-needs
 returns-clause-needs c =
-    let u = has_followers c.args.chain.now.rotations.items c.as_slice-rotations.result.now c.in_ok-followers.followers.items c.as_slice-followers.result.now c.as_slice-rotations.ensures.value c.as_slice-followers.ensures.value c.proposers.ensures.market c.requires.complete c.in_ok-followers.ensures.followers in
+    let u = has_followers c.args.rotations.now c.args.followers.now c.proposers.ensures.market c.requires.complete c.requires.followers in
     let empty : heap_items c.steps.ready ≡ [] = nil_of (heap_items c.steps.ready) (sym c.steps.ready.data.ok.0 ∙ c.in_default.ensures.none) in
-    let printed : IsPrintedChain c.args.market.now c.args.chain.now.first.places (rotations_of c.steps.written.items) = written_whole u c.steps.invariant.written empty in
+    let printed : IsPrintedChain c.args.market.now c.args.first.now.places (rotations_of c.steps.written.items) = written_whole u c.steps.invariant.written empty in
     needs_written u.market u.chain u.are printed.chain c.steps.invariant.renumbered

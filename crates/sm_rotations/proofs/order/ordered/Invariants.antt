@@ -10,12 +10,12 @@ use Rattle.sm_rotations.proofs.order.ordered.Given as goal
 abbrev pub invariant-steps : goal.invariant-steps
 invariant-steps l = record {
   order : IsHeap later_first (heap_items l.ready);
-  written : AreWritten l.market l.fn.chain.first.places (rotations_of l.rotations) (rows_of l.followers) (rotations_of l.written.items) l.unmet (heap_items l.ready);
-  renumbered : AreRenumbered l.market l.fn.chain.first.places (rotations_of l.rotations) (rows_of l.followers)
-      (stage l.market l.fn.chain.first.places (rotations_of l.written.items) (length (rotations_of l.written.items))) (rotations_of l.written.items) (rows_of l.noted) (rows_of l.needs.items);
-  few : length (rotations_of l.written.items) + places_below l.market (stage l.market l.fn.chain.first.places (rotations_of l.written.items) (length (rotations_of l.written.items)))
-      ≤ places_below l.market l.fn.chain.first.places;
+  written : AreWritten l.market l.first.places (rotations_of l.rotations) (rows_of l.followers) (rotations_of l.written.items) l.unmet (heap_items l.ready);
+  renumbered : AreRenumbered l.market l.first.places (rotations_of l.rotations) (rows_of l.followers)
+      (stage l.market l.first.places (rotations_of l.written.items) (length (rotations_of l.written.items))) (rotations_of l.written.items) (rows_of l.noted) (rows_of l.needs.items);
+  few : length (rotations_of l.written.items) + places_below l.market (stage l.market l.first.places (rotations_of l.written.items) (length (rotations_of l.written.items)))
+      ≤ places_below l.market l.first.places;
 }
 
 abbrev pub decreases-steps : goal.decreases-steps
-decreases-steps l = places_below l.market (stage l.market l.fn.chain.first.places (rotations_of l.written.items) (length (rotations_of l.written.items)))
+decreases-steps l = places_below l.market (stage l.market l.first.places (rotations_of l.written.items) (length (rotations_of l.written.items)))

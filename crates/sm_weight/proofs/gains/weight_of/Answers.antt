@@ -1,10 +1,10 @@
 use Rattle.std.proofs.Common.{◌^◌, ◌≡◌, ℕ, ◌<◌, ◌≤◌, arith, sym, ap, ◌∙◌, Some, length}
 use Rattle.std.specs.Int.RustNames.{unsigned_abs}
 use Rattle.sm_market.specs.Matching.{held}
-use Rattle.sm_poset.proofs.MoveLemmas.{some_in_range}
 use Rattle.sm_theory.specs.Weights.{weight_at, weight_of_place}
 use Rattle.sm_weight.specs.Sizes.{weights_in, place_weights}
 use Rattle.sm_theory.proofs.Weighing.Sizes.{small_is}
+use Rattle.sm_weight.proofs.GainLemmas.{some_in_range}
 use Rattle.sm_weight.proofs.SizeLemmas.{weight_long, weight_read}
 use Rattle.sm_weight.proofs.gains.weight_of.Goals as goal
 
