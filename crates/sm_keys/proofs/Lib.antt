@@ -10,3 +10,5 @@ pub mod ListingLemmas
 pub mod OrderLemmas
 pub mod AllLemmas
 pub mod EnoughLemmas
+pub mod KnownLemmas
+pub mod LineLemmas

@@ -68,7 +68,7 @@ unfolding is_name_byte
 first_is_byte b h = rw h refl
 
 -- what begins a run isn't bad
-run_no_bad : (token : List ℕ) → begins_run token ≡ true → is_bad token ≡ false
+pub run_no_bad : (token : List ℕ) → begins_run token ≡ true → is_bad token ≡ false
 unfolding is_bad
 run_no_bad [] h = refl
 run_no_bad (b ∷ rest) h = rw h refl

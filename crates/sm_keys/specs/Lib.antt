@@ -3,3 +3,4 @@ pub mod Keys
 pub mod Tokens
 pub mod Tables
 pub mod Enough
+pub mod Lines

@@ -86,11 +86,13 @@ pub record IsStamped (old new : Table) (name : List ℕ) (stamp i : ℕ) : Type 
   pub unstamped : slice_index old.stamps i ≢ stamp
   pub stamps : (k : ℕ) → slice_index new.stamps k ≡ (if k == i then stamp else slice_index old.stamps k)
 
--- a name has this stamp
+-- a name has this stamp; none has changed
 pub record HasStamp (old new : Table) (name : List ℕ) (stamp : ℕ) : Type 0 where
   pub stamp_each : length old.stamps ≡ length old.texts
   pub at : ℕ
   pub extends : Extends old.texts new.texts
+  pub declared : new.declared ≡ old.declared
+  pub stamps : (k : ℕ) → slice_index new.stamps k ≡ slice_index old.stamps k
   pub names : text_at new.texts at ≡ name
   pub stamped : slice_index old.stamps at ≡ stamp
 

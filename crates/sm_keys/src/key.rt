@@ -1,9 +1,11 @@
 //! Names of a text as keys of a set.
 
-ghost use Rattle.std.specs.Prelude.{◌≡◌, ◌-◌, ◌≤◌, length, take, drop};
+ghost use Rattle.std.specs.Prelude.{◌≡◌, ◌-◌, ◌≤◌, true, length, take, drop};
 ghost use Rattle.std.specs.Str.{bytes_eq};
-ghost use Rattle.sm_keys.specs.Words.{IsWordOf, ends_by_twos, ends_by_fours};
+ghost use Rattle.sm_text.specs.Name.{is_name as is_a_name};
+ghost use Rattle.sm_keys.specs.Words.{IsWordOf, IsNameLen, ends_by_twos, ends_by_fours};
 
+use sm_text::is_name;
 use std::hash::{FoldHasher, Hash, Hasher};
 
 /// A name as a key of a set. All its bytes are hashed at once, where a slice is hashed byte by byte. Names of two to eight
@@ -14,7 +16,10 @@ pub struct Key<'a> {
     pub text: &'a [u8],
     /// The name's word. Of two to eight bytes, no other name of the same length has it.
     pub word: u64,
+    /// Its length, if it was found to be a name by the rule of names, and else 0.
+    name_len: usize,
     ghost is_word: { IsWordOf word text.now },
+    ghost is_name_len: { IsNameLen name_len text.now },
 }
 
 impl<'a> Key<'a> {
@@ -28,6 +33,7 @@ impl<'a> Key<'a> {
             _ => Key {
                 text,
                 word: hash(text),
+                name_len: 0,
             },
         }
     }
@@ -42,6 +48,7 @@ impl<'a> Key<'a> {
         Key {
             text,
             word: ends_by_twos(text),
+            name_len: 0,
         }
     }
 
@@ -55,7 +62,37 @@ impl<'a> Key<'a> {
         Key {
             text,
             word: ends_by_fours(text),
+            name_len: 0,
         }
+    }
+
+    /// The same key, which tells whether it is that of a name. Takes time in the length of the name.
+    pub(crate) fn tried(self) -> Key<'a>
+        ensures { result.text.now ≡ self.entry.text.now }
+    {
+        let Key { text, word, .. } = self;
+        if is_name(text) {
+            let name_len = text.len();
+            Key {
+                text,
+                word,
+                name_len,
+            }
+        } else {
+            self
+        }
+    }
+
+    /// Is this the key of two to eight bytes, and were they found to be a name? Takes constant time.
+    #[inline(always)]
+    pub(crate) fn is_name_of(&self, key: Key<'_>) -> bool
+        requires enough { 2 ≤ length key.text.now }
+        requires few { length key.text.now ≤ 8 }
+        ensures same { result ≡ true → self.now.text.now ≡ key.entry.text.now }
+        ensures name { result ≡ true → is_a_name key.entry.text.now ≡ true }
+    {
+        let (text, other) = (self.text, key.text);
+        self.name_len == other.len() && have_same_word(text, other, self.word, key.word)
     }
 }
 

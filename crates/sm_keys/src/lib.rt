@@ -3,6 +3,7 @@
 #![tactic(auto)]
 
 mod key;
+mod known;
 mod long;
 mod names;
 mod recent;
@@ -12,4 +13,4 @@ pub use key::Key;
 pub use long::cut_enough;
 pub use names::Names;
 pub use recent::Recent;
-pub use tokens::{Found, is_run, line_from};
+pub use tokens::{Found, Head, head_of, is_run, line_from};

@@ -2,18 +2,17 @@
 
 ghost use Rattle.std.specs.Prelude.{◌≡◌, ◌++◌, ◌∷◌, [], List, ℕ, true, IfOk};
 ghost use Rattle.std.specs.List.{list_any};
-ghost use Rattle.std.specs.Str.{bytes_eq};
 ghost use Rattle.sm_text.specs.Slices.{texts_of};
 ghost use Rattle.sm_text.specs.Tokens.{tokens};
 ghost use Rattle.sm_keys.specs.Tokens.{is_bad, AreNamesAtEnd};
 ghost use Rattle.sm_keys.specs.Enough.{AreEnough, StandsTwice};
 
-use crate::tokens::{Found, cut, token_from};
+use crate::tokens::{Found, cut, is, token_from};
 use sm_text::is_name;
 use std::alloc::{AllocError, Global};
 
 /// A line of more bytes is long. So few bytes have too few tokens for memory to matter.
-const LONG: usize = 1 << 20;
+pub(crate) const LONG: usize = 1 << 20;
 
 /// So many tokens at the front of a line are kept in any case.
 const FIRST_TOKENS: usize = 10;
@@ -120,13 +119,6 @@ fn stands_twice(kept: &[&[u8]], token: &[u8], first: usize, second: usize) -> bo
         return is(kept[second], token);
     }
     false
-}
-
-/// Is the token this text?
-fn is(token: &[u8], text: &[u8]) -> bool
-    ensures { result ≡ bytes_eq token.now text.now }
-{
-    token == text
 }
 
 /// How many tokens at the end are names.

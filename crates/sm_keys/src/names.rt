@@ -1,15 +1,19 @@
 //! The names of one side.
 
-ghost use Rattle.std.specs.Prelude.{◌≡◌, ℕ, ◌<◌, ◌≤◌, ◌^◌, not, true, None, Some, is_some, length, slice_index, slice_index_or, position, vec_len, vec_capacity, IfOk, IfSome};
+ghost use Rattle.std.specs.Prelude.{◌≡◌, ℕ, [], ◌+◌, ◌-◌, ◌<◌, ◌≤◌, ◌^◌, not, true, None, Some, is_some, length, slice_index, slice_index_or, position, vec_len, vec_capacity, IfOk, IfSome};
 ghost use Rattle.std.specs.List.{list_any, list_all};
 ghost use Rattle.std.specs.Str.{bytes_eq};
 ghost use Rattle.indexmap.specs.IndexSet.{keys};
 ghost use Rattle.sm_keys.specs.Tables.{number_in, is_unknown, AreInOrder, Table, text_at, no_names, Interns, Declares, MeetsName, ListsNames, IsAt, IsListing, ListsFurther};
+ghost use Rattle.sm_keys.specs.Lines.{IsListingLine, ListsLine, FindsLine};
 ghost use Rattle.sm_keys.specs.Keys.{key_texts};
 ghost use Rattle.sm_text.specs.Slices.{texts_of};
+ghost use Rattle.sm_text.specs.Tokens.{tokens};
 
 use crate::key::Key;
+use crate::known::{Known, begins_short, list_known};
 use crate::recent::Recent;
+use crate::tokens::{behind_blank, token_from};
 use indexmap::IndexSet;
 use sm_text::TextHash;
 use std::alloc::{AllocError, Global};
@@ -120,7 +124,7 @@ impl<'a> Names<'a> {
             return Ok(index);
         }
         self.make_ready()?;
-        let index = self.place(name)?;
+        let index = self.place(name.tried())?;
         self.recent.note(name.word, name.text.len(), index)?;
         Ok(index)
     }
@@ -260,6 +264,90 @@ impl<'a> Names<'a> {
             self.list_guessed(entries, line, &mut indexes);
         }
         Ok(Some(indexes))
+    }
+
+    /// Lists the names on a list as it stands on the line of a number: their indexes, instead of what the vector holds. `false` where
+    /// something else stands on it, or a name twice; names may have been added then, and none has this number. Takes the time of
+    /// [`Names::intern`] for each name, and memory in proportion to the line.
+    ///
+    /// # Errors
+    ///
+    /// `AllocError` where memory ran out, and only then.
+    pub fn list_line(
+        &mut self,
+        line: &'a [u8],
+        stamp: u32,
+        indexes: &mut Vec<u32>,
+    ) -> Result<bool, AllocError>
+        requires { (k : ℕ) → slice_index self.old.stamps k < stamp }
+        ensures { IfOk result (λ all. ListsLine self.old self.new (tokens line.now) stamp all
+            indexes.new.items) }
+    {
+        indexes.clear();
+        if !begins_short(line) {
+            return Ok(false);
+        }
+        indexes.reserve(line.len())?;
+        let all = self.list_tokens(line, stamp, indexes)?;
+        if !all && !indexes.is_empty() {
+            self.forget();
+        }
+        Ok(all)
+    }
+
+    /// Lists the names on a line, up to something else or a name that stands on it already, and answers whether none does.
+    fn list_tokens(
+        &mut self,
+        line: &'a [u8],
+        stamp: u32,
+        indexes: &mut Vec<u32>,
+    ) -> Result<bool, AllocError>
+        requires fresh { (k : ℕ) → slice_index self.old.stamps k < stamp }
+        requires none { indexes.old.items ≡ [] }
+        requires room { length line.now ≤ vec_capacity indexes.old }
+        ensures { IfOk result (λ all. FindsLine self.old self.new (tokens line.now) stamp all
+            indexes.new.items) }
+    {
+        let mut at = self.list_known(line, 0, stamp, indexes);
+        'tokens: while let Some(token) = token_from(line, at) {
+            if !token.name {
+                return Ok(false);
+            }
+            let Some(index) = self.meet(&line[token.start..token.stop], stamp)? else {
+                return Ok(false);
+            };
+            indexes.push_reserved(index);
+            at = self.list_known(line, behind_blank(line, token.stop), stamp, indexes);
+        }
+        Ok(true)
+    }
+
+    /// Lists the next names on a line, up to one that isn't where it is guessed or stands on the line already, and answers the place
+    /// behind them.
+    fn list_known(&mut self, line: &[u8], from: usize, stamp: u32, indexes: &mut Vec<u32>) -> usize
+        requires some { 0 < stamp }
+        requires room { vec_len indexes.old + (length line.now - from) ≤ vec_capacity indexes.old }
+        ensures further { (first : Table) → IsListingLine first self.old line.now from stamp
+            (vec_len indexes.old) indexes.old.items
+            → IsListingLine first self.new line.now result stamp
+            (vec_len indexes.new) indexes.new.items }
+        ensures behind { from ≤ result }
+        ensures room { vec_len indexes.new + (length line.now - result) ≤ vec_capacity indexes.new }
+    {
+        let known = Known {
+            recent: &self.recent,
+            names: self.texts.as_slice(),
+        };
+        list_known(known, &mut self.stamps, line, from, stamp, indexes)
+    }
+
+    /// Forgets on which line each name stood last.
+    fn forget(&mut self)
+        ensures texts { self.new.texts ≡ self.old.texts }
+        ensures declared { self.new.declared ≡ self.old.declared }
+        ensures stamps { (k : ℕ) → slice_index self.new.stamps k ≡ 0 }
+    {
+        self.stamps.fill(0);
     }
 
     /// Lists the next names on the list of a line, up to one that isn't where it is guessed or stands on the list already.

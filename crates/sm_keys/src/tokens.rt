@@ -5,9 +5,12 @@ ghost use Rattle.std.specs.List.{list_any, list_all};
 ghost use Rattle.sm_text.specs.Limits.{most_name_bytes};
 ghost use Rattle.sm_text.specs.Name.{is_name as is_a_name, is_name_byte, begins_name};
 ghost use Rattle.sm_text.specs.Tokens.{tokens, begins_run, token_at, run_end, IsLeading, LeadsTokens};
+ghost use Rattle.std.specs.Str.{bytes_eq};
 ghost use Rattle.sm_keys.specs.Tokens.{is_bad, LeadsLines, AreNamesAtEnd};
+ghost use Rattle.sm_keys.specs.Lines.{BeginsList};
 ghost use Rattle.sm_text.specs.Slices.{texts_of};
 
+use crate::long::LONG;
 use sm_text::{LineSpan, MOST_NAME_BYTES, TokenAt, begins_name, is_name_byte, line_at, token_at};
 use std::alloc::AllocError;
 
@@ -20,6 +23,17 @@ pub struct Found {
     pub names: usize,
 }
 
+/// A line that begins with a word, a name and a colon, cut there.
+#[derive(Clone, Copy)]
+pub struct Head<'a> {
+    /// The word, which is a name too.
+    pub word: &'a [u8],
+    /// The name.
+    pub name: &'a [u8],
+    /// What stands behind the colon.
+    pub list: &'a [u8],
+}
+
 /// Where a token stands on a line, and what it was found to be.
 #[derive(Clone, Copy)]
 pub(crate) struct Token {
@@ -28,7 +42,7 @@ pub(crate) struct Token {
     /// Is it a byte that no line of an instance holds?
     pub(crate) bad: bool,
     /// Is it a name?
-    name: bool,
+    pub(crate) name: bool,
 }
 
 /// What the line that begins at a place holds, and the place behind the line; `None` past the last line. Takes time in the
@@ -41,6 +55,28 @@ pub fn line_from<'a>(bytes: &'a [u8], from: usize) -> Option<(&'a [u8], usize)>
 {
     let LineSpan { start, stop, next } = line_at(bytes, from)?;
     Some((&bytes[start..stop], next))
+}
+
+/// The word, the name and the colon with which a line begins, and `None` where it begins in another way or is a long line. Takes time
+/// in their length.
+pub fn head_of<'a>(line: &'a [u8]) -> Option<Head<'a>>
+    ensures { IfSome result (λ head. BeginsList line.now head.word.now head.name.now head.list.now) }
+{
+    if line.len() > LONG {
+        return None;
+    }
+    let word = token_from(line, 0)?;
+    let name = token_from(line, word.stop)?;
+    let colon = token_from(line, name.stop)?;
+    if word.name && name.name && is(&line[colon.start..colon.stop], b":") {
+        Some(Head {
+            word: &line[word.start..word.stop],
+            name: &line[name.start..name.stop],
+            list: &line[colon.stop..],
+        })
+    } else {
+        None
+    }
 }
 
 /// Cuts a line into its tokens, instead of what the vector holds. Takes time in the length of the line.
@@ -182,7 +218,7 @@ pub(crate) fn token_from(line: &[u8], from: usize) -> Option<Token>
 
 /// The place behind the blank that stands at a place, and the place itself where none does. One blank stands between most
 /// tokens.
-fn behind_blank(line: &[u8], at: usize) -> usize
+pub(crate) fn behind_blank(line: &[u8], at: usize) -> usize
     ensures tokens { tokens (drop result line.now) ≡ tokens (drop at line.now) }
     ensures behind { at ≤ result }
 {
@@ -242,6 +278,13 @@ pub fn is_run(token: &[u8]) -> bool
         [first, ..] => is_name_byte(*first),
         [] => false,
     }
+}
+
+/// Is the token this text?
+pub(crate) fn is(token: &[u8], text: &[u8]) -> bool
+    ensures { result ≡ bytes_eq token.now text.now }
+{
+    token == text
 }
 
 /// Is this run, which is name bytes all through, a name?

@@ -15,3 +15,4 @@ pub mod MasterLemmas
 pub mod WitnessLemmas
 pub mod FormLemmas
 pub mod EnoughLemmas
+pub mod ListedLemmas

@@ -38,7 +38,7 @@ module _ (names : ℕ) where
   all_names tokens h = h.are 0 ∙ ap (λ n. nat_le n names) (length-map tokens (λ (x : Bor (List ℕ)). x.now))
 
 -- names are runs
-name_begins : (token : List ℕ) → is_name token ≡ true → begins_run token ≡ true
+pub name_begins : (token : List ℕ) → is_name token ≡ true → begins_run token ≡ true
 name_begins [] h = cc
 name_begins (b ∷ rest) h = and_left (is_name_byte b) (list_all is_name_byte rest) (and_right _ (list_all is_name_byte (b ∷ rest)) h)
 

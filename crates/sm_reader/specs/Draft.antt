@@ -172,7 +172,7 @@ pub record AddsForm (kind : Kind) (line : ℕ) (form : Form) (old new : Draft) :
 -- a line is judged by its tokens
 abbrev pub JudgesTokens : Kind → (format : ℕ) → ℕ → List (List ℕ) → Draft → Draft → Step → Type 0
 JudgesTokens kind format line tokens old new Goes = (verdict_on kind format (said_of kind old) line tokens ≡ goes (said_of kind new)) × IsDraft kind (line + 1) new
-JudgesTokens kind format line tokens old new Stops = (verdict_on kind format (said_of kind old) line tokens ≡ stops) × (new ≡ old)
+JudgesTokens kind format line tokens old new Stops = (verdict_on kind format (said_of kind old) line tokens ≡ stops) × (said_of kind new ≡ said_of kind old) × IsDraft kind line new
 
 -- a verdict refuses the line for this fault; want of memory says nothing
 abbrev pub IsRefusedBy : Verdict → ℕ → TextFault → Type 0

@@ -2,6 +2,7 @@ pub mod Forms
 pub mod Judging
 pub mod InstanceText
 pub mod Draft
+pub mod Listed
 pub mod Right
 pub mod Numbering
 pub mod Reading

@@ -452,7 +452,7 @@ fn are_runs(tokens: &[&[u8]], names: usize) -> bool
 }
 
 /// Is the token this text?
-fn is(token: &[u8], text: &[u8]) -> bool
+pub(crate) fn is(token: &[u8], text: &[u8]) -> bool
     ensures { result ≡ bytes_eq token.now text.now }
 {
     token == text

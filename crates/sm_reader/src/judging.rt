@@ -276,7 +276,7 @@ pub(crate) fn listed_side(kind: Kind, side: Side) -> Side
 }
 
 /// Declares a name that isn't declared yet on its side.
-fn declare<'a>(
+pub(crate) fn declare<'a>(
     draft: &mut Draft<'a>,
     side: Side,
     name: &'a [u8],
@@ -323,7 +323,11 @@ pub(crate) fn listed<'a>(
 }
 
 /// Puts an agent behind the others of its side, within the limits.
-fn put_agent<'a>(draft: &mut Draft<'a>, side: Side, agent: Declared<'a>) -> Result<(), TextFault>
+pub(crate) fn put_agent<'a>(
+    draft: &mut Draft<'a>,
+    side: Side,
+    agent: Declared<'a>,
+) -> Result<(), TextFault>
     requires { draft.old.entries ≤ most_entries }
     ensures put { IfOk result (λ _. PutsOn side draft.old draft.new agent.entry) }
     ensures fault { IfErr result (λ f. IsLineFault

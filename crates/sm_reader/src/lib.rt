@@ -11,6 +11,7 @@ mod forms;
 mod header;
 mod judging;
 pub mod laws;
+mod listed;
 mod masters;
 mod numbering;
 mod ordering;

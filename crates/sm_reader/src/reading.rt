@@ -8,10 +8,11 @@ ghost use Rattle.sm_text.specs.Lines.{lines};
 ghost use Rattle.sm_instance.specs.Inputs.{IsInput};
 ghost use Rattle.sm_instance.specs.declared.inputs.Input.TheVariants.{Two};
 ghost use Rattle.sm_instance.specs.Named.{nothing};
-ghost use Rattle.sm_reader.specs.Judging.{heading_of};
+ghost use Rattle.sm_text.specs.Tokens.{tokens};
+ghost use Rattle.sm_reader.specs.Judging.{heading_of, verdict_on};
 ghost use Rattle.sm_reader.specs.InstanceText.{instance_text, read_of, IsTextFault, before_header, behind_header, unknown_lines, least, input_of, two_sides};
 ghost use Rattle.sm_text.specs.Slices.{texts_of};
-ghost use Rattle.sm_reader.specs.Draft.{said_of, IsDraft};
+ghost use Rattle.sm_reader.specs.Draft.{said_of, IsDraft, JudgesTokens, IsRefusedBy};
 ghost use Rattle.sm_reader.specs.Numbering.{IsReady, IsUnknownFault};
 ghost use Rattle.sm_reader.specs.Reading.{IsHeaded, IsFaultOf, heading_is, IsHeadingFault, EndsAt, Finishes};
 
@@ -20,6 +21,7 @@ use crate::faults::TextFault;
 use crate::forms::header_of;
 use crate::header::Header;
 use crate::judging::{Step, judge};
+use crate::listed::{add_line, agent_line};
 use crate::numbering::{first_unknown, numbered_persons, numbered_sides};
 use sm_instance::{Input, Instance, Kind, Persons};
 use sm_keys::{cut_enough, line_from};
@@ -117,6 +119,15 @@ struct End {
     rest_line: u32,
 }
 
+/// What is kept from line to line for its memory alone.
+#[derive(Drop)]
+struct Scratch<'a> {
+    /// Tokens of a line.
+    tokens: Vec<&'a [u8]>,
+    /// Indexes of the names on a list.
+    indexes: Vec<u32>,
+}
+
 /// Reads the lines behind the header.
 fn read_lines(alloc: Global, bytes: &[u8], header: Header) -> Result<Read, TextFault>
     requires short { length bytes.now ≤ most_bytes }
@@ -161,12 +172,14 @@ fn judge_lines<'a>(
     ensures fault { IfErr result (λ f. IsFaultOf (behind_header header.kind header.format header.line nothing
         (header.line + 1) header.next (lines (drop header.next bytes.now))) f) }
 {
-    let mut tokens = Vec::new(alloc);
+    let mut scratch = Scratch {
+        tokens: Vec::new(alloc),
+        indexes: Vec::new(alloc),
+    };
     let mut at = header.next;
     let mut line = header.line + 1;
     'lines: while let Some((text, next)) = line_from(bytes, at) {
-        let found = cut_enough(text, &mut tokens)?;
-        match judge(alloc, header, draft, line, &tokens, found)? {
+        match judge_line(alloc, header, draft, line, text, &mut scratch)? {
             Step::Goes => {
                 at = next;
                 line += 1;
@@ -180,6 +193,51 @@ fn judge_lines<'a>(
         }
     }
     Err(TextFault::Refused(RefusalKind::MissingEnd, line))
+}
+
+/// Judges a line, and adds what it says. The line of an agent is mostly added as it is read, and else judged by its tokens.
+fn judge_line<'a>(
+    alloc: Global,
+    header: Header,
+    draft: &mut Draft<'a>,
+    line: u32,
+    text: &'a [u8],
+    scratch: &mut Scratch<'a>,
+) -> Result<Step, TextFault>
+    requires { IsDraft header.kind line draft.old }
+    ensures judged { IfOk result (λ step. JudgesTokens header.kind header.format line
+        (tokens text.now) draft.old draft.new step) }
+    ensures refused { IfErr result (λ f. IsRefusedBy
+        (verdict_on header.kind header.format (said_of header.kind draft.old) line
+        (tokens text.now)) line f) }
+{
+    let Some(agent) = agent_line(header.kind, text) else {
+        return judge_tokens(alloc, header, draft, line, text, &mut scratch.tokens);
+    };
+    if add_line(alloc, header.kind, draft, line, agent, &mut scratch.indexes)? {
+        return Ok(Step::Goes);
+    }
+    judge_tokens(alloc, header, draft, line, text, &mut scratch.tokens)
+}
+
+/// Judges a line by its tokens, and adds what it says.
+fn judge_tokens<'a>(
+    alloc: Global,
+    header: Header,
+    draft: &mut Draft<'a>,
+    line: u32,
+    text: &'a [u8],
+    kept: &mut Vec<&'a [u8]>,
+) -> Result<Step, TextFault>
+    requires { IsDraft header.kind line draft.old }
+    ensures judged { IfOk result (λ step. JudgesTokens header.kind header.format line
+        (tokens text.now) draft.old draft.new step) }
+    ensures refused { IfErr result (λ f. IsRefusedBy
+        (verdict_on header.kind header.format (said_of header.kind draft.old) line
+        (tokens text.now)) line f) }
+{
+    let found = cut_enough(text, kept)?;
+    judge(alloc, header, draft, line, kept, found)
 }
 
 /// The hashes for the names and pairs of an instance, behind which so many bytes stand. The text's are wanted where it has

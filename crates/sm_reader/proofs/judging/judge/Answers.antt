@@ -32,7 +32,7 @@ returns-then-found-clause-refused c =
 
 pub returns-then-is_end-clause-judged : goal.returns-then-is_end-clause-judged
 returns-then-is_end-clause-judged c =
-    (verdict_end c.args.header.kind c.args.header.format (said_of c.args.header.kind c.args.draft.now) c.args.line c.args.tokens.now c.in-len1-up.len_at_least (sym c.requires.bad ∙ c.if-found.false) (sym c.is_end.ensures ∙ c.if-is_end.true), refl)
+    (verdict_end c.args.header.kind c.args.header.format (said_of c.args.header.kind c.args.draft.now) c.args.line c.args.tokens.now c.in-len1-up.len_at_least (sym c.requires.bad ∙ c.if-found.false) (sym c.is_end.ensures ∙ c.if-is_end.true), refl, c.requires.draft)
 
 pub returns-in-None-clause-refused : goal.returns-in-None-clause-refused
 returns-in-None-clause-refused c =

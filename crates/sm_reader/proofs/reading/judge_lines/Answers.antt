@@ -1,18 +1,13 @@
-use Rattle.std.proofs.Common.{◌≡◌, ◌+◌, drop, ap, ◌∙◌, sym, subst, arith}
+use Rattle.std.proofs.Common.{◌+◌, drop, ap, ◌∙◌, sym, subst, arith}
 use Rattle.sm_text.specs.Lines.{lines}
 use Rattle.sm_text.specs.Tokens.{tokens}
 use Rattle.sm_instance.specs.Named.{nothing}
-use Rattle.sm_reader.specs.Judging.{verdict_on}
 use Rattle.sm_reader.specs.InstanceText.{behind_header, ended}
-use Rattle.sm_text.specs.Slices.{texts_of}
-use Rattle.sm_reader.specs.Draft.{said_of, IsDraft, IsRefusedBy}
+use Rattle.sm_reader.specs.Draft.{said_of}
 use Rattle.sm_reader.specs.Reading.{IsFaultOf}
-use Rattle.sm_reader.specs.declared.draft.Draft.{Draft}
-use Rattle.sm_reader.specs.declared.faults.TextFault.TheVariants.{OutOfMemory}
 use Rattle.sm_reader.specs.Right.{IsRight}
 use Rattle.sm_reader.proofs.ReadingLemmas.{goes_step, stops_step, refuses_step, same_fault}
 use Rattle.sm_reader.proofs.RightLemmas.{nothing_right, goes_right}
-use Rattle.sm_reader.proofs.EnoughLemmas.{verdict_enough}
 use Rattle.sm_reader.proofs.ResultLemmas.{on_err}
 use Rattle.sm_reader.proofs.reading.judge_lines.Goals as goal
 
@@ -31,57 +26,42 @@ pub lines-preserved : goal.lines-preserved
 lines-preserved c =
     let h = c.args.header in
     let bytes = c.args.bytes.now in
-    let old = c.lines.draft in
-    let said = said_of h.kind old in
-    let same : verdict_on h.kind h.format said c.lines.line (texts_of c.deref.result.now) ≡ verdict_on h.kind h.format said c.lines.line (tokens c.in-Some.text.now) =
-    ap (λ xs. verdict_on h.kind h.format said c.lines.line (texts_of xs)) c.deref.ensures.value ∙ verdict_enough _ _ c.in_ok-found.ensures.enough h.kind h.format said c.lines.line in
-    let judged = rw c.in-Goes.is at c.in_ok-judge.ensures.judged in
+    let said = said_of h.kind c.lines.draft in
+    let judged = rw c.in-Goes.is at c.in_ok-judge_line.ensures.judged in
     record {
-      means = sym (goes_step bytes c.in-Some.text.now c.lines.at c.in-Some.next c.in-Some.ensures.line h.kind h.format h.line said c.lines.line (said_of h.kind c.judge.new.draft)
-          (sym same ∙ judged.0)) ∙ c.lines.invariant.means;
+      means = sym (goes_step bytes c.in-Some.text.now c.lines.at c.in-Some.next c.in-Some.ensures.line h.kind h.format h.line said c.lines.line (said_of h.kind c.judge_line.new.draft) judged.0)
+          ∙ c.lines.invariant.means;
       draft = judged.1;
-      right = goes_right h.kind h.format said c.lines.line (tokens c.in-Some.text.now) (said_of h.kind c.judge.new.draft) c.lines.invariant.right (sym same ∙ judged.0);
+      right = goes_right h.kind h.format said c.lines.line (tokens c.in-Some.text.now) (said_of h.kind c.judge_line.new.draft) c.lines.invariant.right judged.0;
       fits = omega (arith, c.lines.invariant.fits, c.in-Some.ensures.later);
       within = c.in-Some.ensures.within;
     }
 
-pub returns-in_err-found-clause-fault : goal.returns-in_err-found-clause-fault
-returns-in_err-found-clause-fault c =
-    let h = c.args.header in
-    let meaning = behind_header h.kind h.format h.line nothing (h.line + 1) h.next (lines (drop h.next c.args.bytes.now)) in
-    on_err (IsFaultOf meaning) c.from_residual.result OutOfMemory c.from_residual.ensures.1 tt
-
-pub returns-in_err-judge-clause-fault : goal.returns-in_err-judge-clause-fault
-returns-in_err-judge-clause-fault c =
+pub returns-in_err-judge_line-clause-fault : goal.returns-in_err-judge_line-clause-fault
+returns-in_err-judge_line-clause-fault c =
     let h = c.args.header in
     let bytes = c.args.bytes.now in
     let said = said_of h.kind c.lines.draft in
-    let same : verdict_on h.kind h.format said c.lines.line (texts_of c.deref.result.now) ≡ verdict_on h.kind h.format said c.lines.line (tokens c.in-Some.text.now) =
-    ap (λ xs. verdict_on h.kind h.format said c.lines.line (texts_of xs)) c.deref.ensures.value ∙ verdict_enough _ _ c.in_ok-found.ensures.enough h.kind h.format said c.lines.line in
     let meaning = behind_header h.kind h.format h.line nothing (h.line + 1) h.next (lines (drop h.next bytes)) in
-    let f = c.in_err-judge.field-0.0 in
-    let refused = subst (λ v. IsRefusedBy v c.lines.line f) same c.in_err-judge.ensures.refused in
-    on_err (IsFaultOf meaning) c.from_residual-in_err-judge.result f c.from_residual-in_err-judge.ensures.1
+    let f = c.in_err-judge_line.field-0.0 in
+    on_err (IsFaultOf meaning) c.from_residual.result f c.from_residual.ensures.1
     (same_fault meaning (behind_header h.kind h.format h.line said c.lines.line c.lines.at (lines (drop c.lines.at bytes))) f (sym c.lines.invariant.means)
-    (refuses_step bytes c.in-Some.text.now c.lines.at c.in-Some.next c.in-Some.ensures.line h.kind h.format h.line said c.lines.line f refused))
+    (refuses_step bytes c.in-Some.text.now c.lines.at c.in-Some.next c.in-Some.ensures.line h.kind h.format h.line said c.lines.line f c.in_err-judge_line.ensures.refused))
 
 pub returns-in-Stops-clause-ends : goal.returns-in-Stops-clause-ends
 returns-in-Stops-clause-ends c =
     let h = c.args.header in
     let bytes = c.args.bytes.now in
-    let old = c.lines.draft in
-    let said = said_of h.kind old in
-    let same : verdict_on h.kind h.format said c.lines.line (texts_of c.deref.result.now) ≡ verdict_on h.kind h.format said c.lines.line (tokens c.in-Some.text.now) =
-    ap (λ xs. verdict_on h.kind h.format said c.lines.line (texts_of xs)) c.deref.ensures.value ∙ verdict_enough _ _ c.in_ok-found.ensures.enough h.kind h.format said c.lines.line in
-    let judged = rw c.in-Stops.is at c.in_ok-judge.ensures.judged in
+    let said = said_of h.kind c.lines.draft in
+    let judged = rw c.in-Stops.is at c.in_ok-judge_line.ensures.judged in
     record {
       means = sym c.lines.invariant.means
-          ∙ stops_step bytes c.in-Some.text.now c.lines.at c.in-Some.next c.in-Some.ensures.line h.kind h.format h.line said c.lines.line (sym same ∙ judged.0)
-          ∙ ap (λ d. ended h.kind h.line (said_of h.kind d) c.in-Some.next (c.lines.line + 1)) (sym judged.1);
+          ∙ stops_step bytes c.in-Some.text.now c.lines.at c.in-Some.next c.in-Some.ensures.line h.kind h.format h.line said c.lines.line judged.0
+          ∙ ap (λ s. ended h.kind h.line s c.in-Some.next (c.lines.line + 1)) (sym judged.1);
       ready = record {
         line = c.lines.line;
-        draft = subst (IsDraft h.kind c.lines.line) (sym judged.1) c.lines.invariant.draft;
-        right = subst (λ (x : Draft). IsRight h.kind (said_of h.kind x)) (sym judged.1) c.lines.invariant.right;
+        draft = judged.2;
+        right = subst (IsRight h.kind) (sym judged.1) c.lines.invariant.right;
         few = omega (arith, c.requires.short, c.lines.invariant.fits, c.lines.invariant.within);
       };
       within = c.in-Some.ensures.within;

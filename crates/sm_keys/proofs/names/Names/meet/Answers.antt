@@ -15,6 +15,8 @@ returns-then-index-line c =
       stamp_each = at.was.stamp_each;
       at = i;
       extends = at.extends;
+      declared = at.declared;
+      stamps = at.stamps;
       names = at.names;
       stamped = sym (now.stamps i) ∙ sym (stamp_here _ _ _ _ now c.index.ensures) ∙ c.if-index-line.true;
     }

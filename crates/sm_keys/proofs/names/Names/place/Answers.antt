@@ -34,6 +34,20 @@ invariant_of-self-then-is_new c =
     let placed = interned_new t new name.now c.in_ok-place.place c.self.invariant missing (ap key_texts put ∙ key_texts-push old key) numbers stamps refl index in
     placed.table
 
+pub invariant_of-self-else-is_new : goal.invariant_of-self-else-is_new
+invariant_of-self-else-is_new c =
+    let n = c.self.inside in
+    let t = table_from (keys n.texts) n.numbers.items n.stamps.items n.declared.items in
+    let key = c.args.name in
+    let name = key.text in
+    let old = keys n.texts in
+    let there : list_any (λ (k : Key). bytes_eq name.now (text_of k)) old ≡ true = from_not_false _ (sym c.in_ok-place.ensures.added ∙ c.if-is_new.false) in
+    let put : keys c.insert_full.new.self ≡ old = c.in_ok-place.ensures.keys ∙ ap (λ b. cond b old (old ++ key ∷ [])) there in
+    let new = table_from (keys c.insert_full.new.self) c.reserve.new.self.items c.reserve-2.new.self.items n.declared.items in
+    let placed = interned_old t new name.now c.in_ok-place.place c.self.invariant (sym (list_any_texts name.now old) ∙ there) (ap key_texts put) c.in_ok-reserve.ensures.items c.in_ok-reserve-2.ensures.items refl
+    (c.in_ok-place.ensures.index ∙ position_texts name.now old) in
+    placed.table
+
 pub returns : goal.returns
 returns c = elim c.if-is_new.branch [
   | then-is_new w ↦

@@ -1,0 +1,146 @@
+//! Names that are known, read from a line without a look at each byte.
+
+ghost use Rattle.std.specs.Prelude.{◌≡◌, ◌+◌, ◌-◌, ◌<◌, ◌≤◌, length, vec_len, vec_capacity, IfSome};
+ghost use Rattle.sm_keys.specs.Lines.{IsNamed, IsNameAt, ListsLineFurther};
+ghost use Rattle.sm_keys.specs.Keys.{key_texts};
+
+use crate::key::Key;
+use crate::recent::Recent;
+use crate::tokens::behind_blank;
+
+/// In each byte the highest bit.
+const HIGHEST: u64 = 0x8080_8080_8080_8080;
+
+/// In each byte the number behind that of a blank.
+const BEHIND_BLANK: u64 = 0x2121_2121_2121_2121;
+
+/// The names of one side, by index, with guesses at their indexes.
+#[derive(Clone, Copy)]
+pub(crate) struct Known<'b, 'a> {
+    pub(crate) recent: &'b Recent,
+    pub(crate) names: &'b [Key<'a>],
+}
+
+/// Lists the next names on a line, up to one that isn't where it is guessed or has this stamp, and answers the place behind them. No
+/// call stands in the loop, so that what it reads stays in registers.
+#[inline(always)]
+pub(crate) fn list_known(
+    known: Known<'_, '_>,
+    stamps: &mut [u32],
+    line: &[u8],
+    from: usize,
+    stamp: u32,
+    indexes: &mut Vec<u32>,
+) -> usize
+    requires each { length stamps.old ≡ length known.names.now }
+    requires some { 0 < stamp }
+    requires room { vec_len indexes.old + (length line.now - from) ≤ vec_capacity indexes.old }
+    ensures further { ListsLineFurther (key_texts known.entry.names.now) stamps.old stamps.new
+        line.now stamp from result (vec_len indexes.old) (vec_len indexes.new)
+        indexes.old.items indexes.new.items }
+    ensures behind { from ≤ result }
+    ensures room { vec_len indexes.new + (length line.now - result) ≤ vec_capacity indexes.new }
+{
+    let last = line.len().saturating_sub(8);
+    let mut at = from;
+    'names: while let Some((index, next)) = name_at(known, line, at, last) {
+        if stamps[index as usize] == stamp {
+            return at;
+        }
+        stamps[index as usize] = stamp;
+        indexes.push_reserved(index);
+        at = next;
+    }
+    at
+}
+
+/// Has the first name on a line at most eight bytes? Longer ones can't be guessed at, and tokens are cut faster together than one by
+/// one. Nothing needs the answer to be so.
+pub(crate) fn begins_short(line: &[u8]) -> bool {
+    let at = behind_blank(line, 0);
+    if line.len() <= at || line.len() - at <= 8 {
+        return true;
+    }
+    guessed_len(line, at) < 8 || line[at + 8] == b' '
+}
+
+/// The index of the name that stands at a place before the last eight bytes with one blank behind it, and the place behind the
+/// blank; `None` where it isn't where it is guessed.
+#[inline(always)]
+fn name_at(known: Known<'_, '_>, line: &[u8], at: usize, last: usize) -> Option<(u32, usize)>
+    requires { last ≤ length line.now - 8 }
+    ensures { IfSome result (λ r. IsNameAt (key_texts known.entry.names.now) line.now at r.0 r.1) }
+{
+    if at >= last {
+        return None;
+    }
+    let len = guessed_len(line, at);
+    let index = index_of(known, &line[at..at + len])?;
+    if line[at + len] == b' ' {
+        Some((index, at + len + 1))
+    } else {
+        None
+    }
+}
+
+/// How many of the next eight bytes stand before the first that may be a blank. The lowest byte that is marked is the first below 33,
+/// and nothing needs this to be so. The bytes are named one by one, since they are read at once then, without a test of their number.
+#[inline(always)]
+fn guessed_len(line: &[u8], at: usize) -> usize
+    requires { at + 8 ≤ length line.now }
+    ensures { result ≤ 8 }
+{
+    let word = u64::from_le_bytes([
+        line[at],
+        line[at + 1],
+        line[at + 2],
+        line[at + 3],
+        line[at + 4],
+        line[at + 5],
+        line[at + 6],
+        line[at + 7],
+    ]);
+    let marked = word.wrapping_sub(BEHIND_BLANK) & !word & HIGHEST;
+    (marked.trailing_zeros() >> 3) as usize
+}
+
+/// The index of two to eight bytes that are a name, where they have one of the two that are guessed.
+#[inline(always)]
+fn index_of(known: Known<'_, '_>, name: &[u8]) -> Option<u32>
+    ensures { IfSome result (IsNamed (key_texts known.entry.names.now) name.now) }
+{
+    match name.len() {
+        2..=4 => index_by(known, Key::two_to_four(name)),
+        5..=8 => index_by(known, Key::five_to_eight(name)),
+        _ => None,
+    }
+}
+
+/// The same by a key.
+#[inline(always)]
+fn index_by(known: Known<'_, '_>, key: Key<'_>) -> Option<u32>
+    requires enough { 2 ≤ length key.text.now }
+    requires few { length key.text.now ≤ 8 }
+    ensures { IfSome result (IsNamed (key_texts known.entry.names.now) key.entry.text.now) }
+{
+    let len = key.text.len();
+    match index_at(known, key, known.recent.guess(key.word, len)) {
+        Some(index) => Some(index),
+        None => index_at(known, key, known.recent.second_guess(key.word, len)),
+    }
+}
+
+/// An index, if it is that of these bytes and they are a name.
+#[inline(always)]
+fn index_at(known: Known<'_, '_>, key: Key<'_>, index: u32) -> Option<u32>
+    requires enough { 2 ≤ length key.text.now }
+    requires few { length key.text.now ≤ 8 }
+    ensures { IfSome result (IsNamed (key_texts known.entry.names.now) key.entry.text.now) }
+{
+    let name = known.names.get(index as usize)?;
+    if name.is_name_of(key) {
+        Some(index)
+    } else {
+        None
+    }
+}
