@@ -16,6 +16,7 @@ use Rattle.sm_report.specs.Heads.{HeadData}
 use Rattle.sm_report.specs.Lines.{LineData}
 use Rattle.sm_theory.specs.Chains.{IsPrintedChain, AreNeeds}
 use Rattle.sm_theory.specs.Weights.{gain_of}
+use Rattle.sm_theory.specs.Conditions.{net_of}
 use Rattle.sm_poset.specs.Posets.{RotationPoset, IsPoset, poset_of}
 use Rattle.sm_seats.specs.SeatMarket.{seat_market}
 use Rattle.sm_seats.specs.Seating.{Seating, seating_of, written_of, levels_of}
@@ -23,8 +24,9 @@ use Rattle.sm_seats.specs.Correspondence.{IsSeating, leveled, weights_of}
 use Rattle.sm_placed.specs.Levels.{has_two_levels, pair_second_by, seconds_by}
 use Rattle.sm_placed.proofs.LevelLemmas.{none_second}
 use Rattle.sm_placed.proofs.SecondLemmas.{read_zero, gain_none, lightest_by_both}
+use Rattle.sm_placed.proofs.ShownNetLemmas.{net_is_shown, second_net_is_shown}
 use Rattle.sm_theory.specs.declared.flow_lines.FlowLine.{FlowLine}
-use Rattle.sm_weight.specs.Lightest.{IsFullFlow, AreFullFlows, AreZero, IsLightestFound, set_matching}
+use Rattle.sm_weight.specs.Lightest.{IsFullFlow, AreFullFlows, AreZero, IsOfOneLevel, IsLightestFound, set_matching}
 use Rattle.sm_theory.specs.Net.{Net, cut_of}
 use Rattle.sm_theory.specs.Flows.{flow_value}
 use Rattle.sm_theory.specs.FlowLines.{amount_on}
@@ -106,8 +108,14 @@ module _ {w : Written} (h : IsSeating w (seating_of w)) (found : Lightest) (f : 
   printed_there : IsPrintedChain (seat_market w) found.basis.poset.first.places found.basis.poset.rotations
   printed_there = subst (λ (q : RotationPoset). IsPrintedChain q.lists q.first.places q.rotations) same_poset p.printed
 
+  -- what is of the nets by levels is of the nets that are shown
   full_there : AreFullFlows (net_in found.by w (parts_in f needs)) (second_net_in found.by w (parts_in f needs)) f.source
-  full_there = lightest_there.full needs needs_there
+  full_there =
+      let chain = printed_there.chain in
+      let flow = amount_on f.source.flow.items in
+      subst (λ (net : Net). AreFullFlows net (second_net_in found.by w (parts_in f needs)) f.source) (sym (net_is_shown h chain found.by needs))
+      (subst (λ (other : Net). AreFullFlows (net_of (seat_market w) (levels_of (seating_of w)) (weights_of found.by w (seating_of w)) (leveled w w.forced) (leveled w w.forbidden) found.basis.poset.first.places found.basis.poset.rotations needs) other f.source)
+      (sym (second_net_is_shown h chain found.by needs flow)) (lightest_there.full needs needs_there))
 
   places_there : found.matching.places ≡ set_matching (seated_poset w found) f.source.set.members.items
   places_there = f.places ∙ ap (λ (q : RotationPoset). set_matching q found.taken.members.items) same_poset ∙ ap (set_matching (seated_poset w found)) f.taken
@@ -129,6 +137,10 @@ module _ {w : Written} (h : IsSeating w (seating_of w)) (found : Lightest) (f : 
       ap (λ (gains : List ℤ). slice_index_or gains k (pos 0)) lightest_there.gains2
       ∙ read_zero (gain_of (seat_market w) (seconds_by found.by w s)) (gain_none weigh (none_second found.by w one) s (seat_market w)) found.basis.poset.rotations k
 
+  -- so the first flow reaches the set, and there is no second one
+  alone_there : has_two_levels found.by w ≡ false → IsOfOneLevel (net_in found.by w (parts_in f needs)) f.source
+  alone_there is = subst (λ (net : Net). IsOfOneLevel net f.source) (sym (net_is_shown h printed_there.chain found.by needs)) (lightest_there.one_level (no_gains is) needs needs_there)
+
   -- each flow fills the cut of the set
   fills : {net : Net} {flow : List FlowLine} {cut : ℕ} → IsFullFlow net flow f.source.set.members.items cut → FillsCut net flow f.source.set.members.items
   fills full = record { lines = full.lines; is_flow = full.is_flow; full = full.value ∙ sym full.cut_is }
@@ -136,7 +148,7 @@ module _ {w : Written} (h : IsSeating w (seating_of w)) (found : Lightest) (f : 
   certified : (two : Bool) → has_two_levels found.by w ≡ two
       → AreCertificates two (net_in found.by w (parts_in f needs)) (second_net_in found.by w (parts_in f needs)) f.source.flow.items f.source.flow2.items f.source.set.members.items
   certified true is = (fills full_there.first, record { fills = fills full_there.second; reach = full_there.reach })
-  certified false is = let one = lightest_there.one_level (no_gains is) needs needs_there in (record { fills = fills full_there.first; reach = one.reach }, one.no_flow)
+  certified false is = let one = alone_there is in (record { fills = fills full_there.first; reach = one.reach }, one.no_flow)
 
   -- the lines of one rotation
   rows_shown : (k : ℕ) → k < length found.basis.poset.rotations → row_lines (seating_of w) (rows_found found found.basis.poset.rotations needs) k ≡ gained_lines found.by w (parts_in f needs) k
@@ -192,7 +204,7 @@ module _ {w : Written} (h : IsSeating w (seating_of w)) (found : Lightest) (f : 
       ∙ flat_map_alike (row_lines s (rows_found found rotations needs)) (gained_lines found.by w parts) 0 (length rotations) (λ k l. rows_shown k (omega (arith, l))))
       (ap (map (edge_line First)) f.flow ∙ flow_shown sink f.source.flow.items)
       (ap (map (edge_line Second)) f.second_flow ∙ second_flow_shown sink f.source.flow2.items
-      ∙ flow_in_two two sink f.source.flow2.items (λ is. (lightest_there.one_level (no_gains is) needs needs_there).no_flow))
+      ∙ flow_in_two two sink f.source.flow2.items (λ is. (alone_there is).no_flow))
       (ap (λ set. LineData.Taken (member_numbers set (length set))) f.taken)
       (ap (λ v. LineData.Value v) (f.value ∙ sym full_there.first.value))
       (ap (λ v. LineData.Cut v) (f.value ∙ sym full_there.first.cut_is))

@@ -12,17 +12,14 @@ use Rattle.sm_report.specs.Heads.{HeadData}
 use Rattle.sm_report.specs.Lines.{LineData}
 use Rattle.sm_report.specs.Sound.{IsLineOf}
 use Rattle.sm_report.specs.Texts.{SINK}
-use Rattle.sm_theory.specs.Chains.{rotation_at, IsPrintedChain, AreNeeds}
+use Rattle.sm_theory.specs.Chains.{IsPrintedChain, AreNeeds}
 use Rattle.sm_theory.specs.ClosedSets.{is_member}
-use Rattle.sm_theory.specs.Weights.{gain_of}
 use Rattle.sm_theory.specs.Net.{Net, cut_of}
 use Rattle.sm_theory.specs.Flows.{IsFlow, flow_value, IsResidualReach}
-use Rattle.sm_theory.specs.Conditions.{net_of}
-use Rattle.sm_theory.specs.SecondNets.{second_net_of}
 use Rattle.sm_seats.specs.SeatMarket.{seat_market}
-use Rattle.sm_seats.specs.Seating.{seating_of, levels_of}
-use Rattle.sm_seats.specs.Correspondence.{leveled, weights_of}
-use Rattle.sm_placed.specs.Levels.{has_two_levels, seconds_by}
+use Rattle.sm_seats.specs.Seating.{seating_of}
+use Rattle.sm_placed.specs.Levels.{has_two_levels}
+use Rattle.sm_placed.specs.ShownNet.{gain_shown, second_gain_shown, net_shown, second_net_shown}
 use Rattle.sm_theory.specs.declared.flow_lines.FlowLine.{FlowLine}
 use Rattle.sm_theory.specs.FlowLines.{amount_on, AreFlowLines}
 use Rattle.sm_answer.specs.MatchingLines.{pair_line}
@@ -63,23 +60,19 @@ shown_in w parts = shown_of (seating_of w) parts.first parts.rotations parts.nee
 
 -- the gain of a rotation
 abbrev pub gain_in : Measure → Written → WeightParts → ℕ → ℤ
-gain_in by w parts k = gain_of (seat_market w) (weights_of by w (seating_of w)) (rotation_at parts.rotations k)
+gain_in by w parts k = gain_shown by w parts.rotations k
 
 -- its gain by second weights
 abbrev pub second_gain_in : Measure → Written → WeightParts → ℕ → ℤ
-second_gain_in by w parts k = gain_of (seat_market w) (seconds_by by w (seating_of w)) (rotation_at parts.rotations k)
+second_gain_in by w parts k = second_gain_shown by w parts.rotations k
 
 -- the net of the gains, the needs and the conditions
--- (Irving, Leather and Gusfield 1987; Gusfield and Irving 1989, chapter 3)
 abbrev pub net_in : Measure → Written → WeightParts → Net
-net_in by w parts =
-    net_of (seat_market w) (levels_of (seating_of w)) (weights_of by w (seating_of w)) (leveled w w.forced) (leveled w w.forbidden) parts.first parts.rotations parts.needs
+net_in by w parts = net_shown by w parts.first parts.rotations parts.needs
 
 -- the second net of the flow
 abbrev pub second_net_in : Measure → Written → WeightParts → Net
-second_net_in by w parts =
-    second_net_of (seat_market w) (levels_of (seating_of w)) (weights_of by w (seating_of w)) (seconds_by by w (seating_of w))
-    (leveled w w.forced) (leveled w w.forbidden) parts.first parts.rotations parts.needs (amount_on parts.flow)
+second_net_in by w parts = second_net_shown by w parts.first parts.rotations parts.needs (amount_on parts.flow)
 
 -- the matching of the set that is taken
 abbrev pub matching_in : Written → WeightParts → List (Option ℕ)

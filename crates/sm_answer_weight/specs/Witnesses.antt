@@ -1,6 +1,6 @@
--- A worked answer: three proposers who go round in a cycle, of whom the first weighs 4 with its second choice and -10 with its
--- third one.
-use Rattle.std.specs.Prelude.{◌≡◌, true, List, [], ◌∷◌, pos, negsuc}
+-- Worked answers: three proposers who go round in a cycle, of whom the first weighs 4 with its second choice and -10 with its third
+-- one; and the net of residents who turn.
+use Rattle.std.specs.Prelude.{◌≡◌, ℕ, Bool, true, false, List, [], ◌∷◌, map, pos, negsuc}
 use Rattle.sm_instance.specs.Written.{Written, plain_written}
 use Rattle.sm_instance.specs.Witnesses.{agent}
 use Rattle.sm_instance.specs.declared.kinds.Kind.TheVariants.{Marriage}
@@ -9,6 +9,9 @@ use Rattle.sm_report.specs.Heads.{HeadData}
 use Rattle.sm_report.specs.Lines.{LineData}
 use Rattle.sm_report.specs.Texts.{SOURCE, SINK}
 use Rattle.sm_report.specs.Witnesses.{first_seat_of}
+use Rattle.sm_seats.specs.Seating.{seating_of}
+use Rattle.sm_seats.specs.Witnesses.{turning_hospitals, firsts}
+use Rattle.sm_placed.specs.ShownNet.{entry_node, exit_node, net_shown}
 use Rattle.sm_theory.specs.Witnesses.{three_cycle_first, three_cycle_chain}
 use Rattle.sm_theory.specs.WitnessesFlows.{three_cycle_needs}
 use Rattle.sm_theory.specs.WitnessesLines.{three_cycle_lines}
@@ -104,3 +107,26 @@ answer_of_two =
 -- the lines of these parts are this answer
 abbrev pub WorkedOfTwo : Type 0
 WorkedOfTwo = weight_lines Given three_of_two parts_of_two ≡ answer_of_two
+
+-- the rotation in which the resident r0 goes from one seat of h to its other one, r1 from h to k, and r2 from k to h
+abbrev pub turning_rotations : List (List (ℕ × ℕ))
+turning_rotations = ((0, 0) ∷ (1, 1) ∷ (2, 2) ∷ []) ∷ []
+
+-- whether unbounded edges lead from each node of its net to each one: from the source, from the rotation, and from the sink
+abbrev pub turning_edges : Written → List (List Bool)
+turning_edges w =
+    let net = net_shown Given w firsts turning_rotations ([] ∷ []) in
+    map (λ i. map (net.unbounded i) (0 ∷ 1 ∷ 2 ∷ [])) (0 ∷ 1 ∷ 2 ∷ [])
+
+-- Between two seats of h nobody enters h or leaves it. So to force the pair of r0 and h asks for nothing. With r1 and h forced the
+-- rotation isn't taken, and with r2 and k forbidden it is.
+abbrev pub TurningNet : Type 0
+TurningNet = let s = seating_of turning_hospitals in
+    (map (entry_node s firsts turning_rotations) ((0, 0) ∷ (1, 0) ∷ (1, 1) ∷ (2, 0) ∷ (2, 1) ∷ []) ≡ 0 ∷ 0 ∷ 1 ∷ 1 ∷ 0 ∷ [])
+    × (map (exit_node s turning_rotations) ((0, 0) ∷ (1, 0) ∷ (1, 1) ∷ (2, 0) ∷ (2, 1) ∷ []) ≡ 2 ∷ 1 ∷ 2 ∷ 2 ∷ 1 ∷ [])
+    × (turning_edges (record turning_hospitals { forced = (0, 0) ∷ [] })
+    ≡ (false ∷ false ∷ false ∷ []) ∷ (false ∷ false ∷ false ∷ []) ∷ (false ∷ false ∷ false ∷ []) ∷ [])
+    × (turning_edges (record turning_hospitals { forced = (1, 0) ∷ [] })
+    ≡ (false ∷ false ∷ false ∷ []) ∷ (false ∷ false ∷ true ∷ []) ∷ (false ∷ false ∷ false ∷ []) ∷ [])
+    × (turning_edges (record turning_hospitals { forbidden = (2, 1) ∷ [] })
+    ≡ (false ∷ true ∷ false ∷ []) ∷ (false ∷ false ∷ false ∷ []) ∷ (false ∷ false ∷ false ∷ []) ∷ [])

@@ -34,13 +34,14 @@ use Rattle.sm_seats.specs.Correspondence.{weights_of, leveled, IsSeating}
 use Rattle.sm_seats.proofs.CorrespondenceLaws.{sound_entries, is_seating}
 use Rattle.sm_seats.proofs.MarketLaws.{is_market}
 use Rattle.sm_placed.specs.Levels.{has_two_levels, pair_second_by, seconds_by}
+use Rattle.sm_placed.specs.ShownNet.{net_shown, second_net_shown}
 use Rattle.sm_placed.proofs.LevelLemmas.{none_second}
 use Rattle.sm_placed.proofs.SecondLemmas.{weight_none, lightest_by_both}
+use Rattle.sm_placed.proofs.ShownNetLemmas.{net_is_shown, second_net_is_shown}
 use Rattle.sm_report.specs.Heads.{HeadData}
 use Rattle.sm_report.specs.Lines.{LineData}
 use Rattle.sm_check_forms.specs.declared.layouts.LayoutPart.{LayoutPart}
 use Rattle.sm_check_net.specs.CheckedNets.{AreNumbersBelow}
-use Rattle.sm_check_net.proofs.EdgeLemmas.{edges_are_on_nodes}
 use Rattle.sm_check_clauses.specs.declared.verdicts.Reason.{Reason}
 use Rattle.sm_check_clauses.specs.declared.verdicts.Reason.TheVariants as reason
 use Rattle.sm_check_forms.specs.Layouts.{is_whole}
@@ -50,6 +51,7 @@ use Rattle.sm_check_clauses.specs.SeatMatchings.{seat_places_in, first_of}
 use Rattle.sm_check_clauses.specs.Pairs.{IsWanted, AreAllThere}
 use Rattle.sm_check_clauses.specs.Flows.{Level, net_in, on_nodes, flow_of, first_level, second_level, last_level, LevelHolds, set_of_numbers, taken_set, taken_matching}
 use Rattle.sm_check_clauses.specs.Judging.{answer, Clauses}
+use Rattle.sm_check_weight.proofs.ShownEdges.{shown_edges_on_nodes}
 use Rattle.sm_check_weight.proofs.SecondLemmas.{second_edges_on_nodes}
 use Rattle.sm_cert.specs.Yes.{ArePairsOf, GetsYes, IsChainWritten, IsFullFlow, HasLightestWeight, WeightYes}
 use Rattle.sm_instance.specs.Lightest.{IsLightestByBoth}
@@ -90,7 +92,7 @@ module _ (w : Written) (by : Measure) where
   start_of d = seat_places_in (seat_market w) d.firsts
 
   abbrev net_by : Read → Net
-  net_by d = net_of (seat_market w) (levels_of (seating_of w)) (weights_of by w (seating_of w)) (leveled w w.forced) (leveled w w.forbidden) (start_of d) d.rotations d.needs
+  net_by d = net_shown by w (start_of d) d.rotations d.needs
 
   abbrev nodes_of : Read → FlowLine → FlowLine
   nodes_of d = on_nodes (length d.rotations)
@@ -100,7 +102,7 @@ module _ (w : Written) (by : Measure) where
 
   abbrev second_net_by : Read → Net
   second_net_by d =
-      second_net_of (seat_market w) (levels_of (seating_of w)) (weights_of by w (seating_of w)) (seconds_by by w (seating_of w)) (leveled w w.forced) (leveled w w.forbidden) (start_of d) d.rotations d.needs (amount_on (flow_by d))
+      second_net_shown by w (start_of d) d.rotations d.needs (amount_on (flow_by d))
 
   abbrev second_flow_by : Read → List FlowLine
   second_flow_by d = map (nodes_of d) d.seconds
@@ -147,14 +149,28 @@ module _ (w : Written) (by : Measure) where
     seats_allowed : IsAllowed (levels_of (seating_of w)) (leveled w w.forced) (leveled w w.forbidden) (seats_by d)
     seats_allowed = (h.allowed (seats_by d) seats_stable.matching).1 c.allowed
 
-    is_flow : IsFullFlow (net_by d) (flow_by d) (set_by d)
-    is_flow = full_flow c.filled
+    -- the nets by levels are the nets that are shown
+    abbrev net_by_levels : Net
+    net_by_levels = net_of (seat_market w) (levels_of (seating_of w)) (weights_of by w (seating_of w)) (leveled w w.forced) (leveled w w.forbidden) (start_of d) d.rotations d.needs
+
+    abbrev second_by_levels : Net
+    second_by_levels = second_net_of (seat_market w) (levels_of (seating_of w)) (weights_of by w (seating_of w)) (seconds_by by w (seating_of w)) (leveled w w.forced) (leveled w w.forbidden) (start_of d) d.rotations d.needs (amount_on (flow_by d))
+
+    same_net : net_by d ≡ net_by_levels
+    same_net = net_is_shown h c.ground.chain by d.needs
+
+    same_second : second_net_by d ≡ second_by_levels
+    same_second = second_net_is_shown h c.ground.chain by d.needs (amount_on (flow_by d))
+
+    is_flow : IsFullFlow net_by_levels (flow_by d) (set_by d)
+    is_flow = subst (λ (net : Net). IsFullFlow net (flow_by d) (set_by d)) same_net (full_flow c.filled)
 
     best_seats : (two : Bool) → has_two_levels by w ≡ two → Reaches two d → IsLightestSeated (seats_by d) × IsBestSeated (seats_by d)
     best_seats true e reaches =
-        let second = full_flow reaches.0 in
+        let second = subst (λ (net : Net). IsFullFlow net (second_flow_by d) (set_by d)) same_second (full_flow reaches.0) in
+        let reach = subst (λ (net : Net). IsResidualReach net (amount_on (second_flow_by d)) (set_by d)) same_second reaches.1 in
         certificate_of_two (seat_market w) (levels_of (seating_of w)) (weights_of by w (seating_of w)) (seconds_by by w (seating_of w)) (leveled w w.forced) (leveled w w.forbidden) (start_of d) d.rotations d.needs (amount_on (flow_by d)) (amount_on (second_flow_by d)) (set_by d)
-        c.ground c.closed seats_allowed is_flow.is_flow is_flow.full second.is_flow reaches.1 second.full
+        c.ground c.closed seats_allowed is_flow.is_flow is_flow.full second.is_flow reach second.full
     best_seats false e reach =
         let levels = levels_of (seating_of w) in
         let weights = weights_of by w (seating_of w) in
@@ -162,8 +178,8 @@ module _ (w : Written) (by : Measure) where
         let forced = leveled w w.forced in
         let forbidden = leveled w w.forbidden in
         let cut = (cuts_are_allowed (seat_market w) levels weights forced forbidden (start_of d) d.rotations d.needs (set_by d) c.ground).1 (c.closed, seats_allowed) in
-        let unleft = (full_cuts_are_unleft (net_by d) (amount_on (flow_by d)) (set_by d) is_flow.is_flow cut.1).0 is_flow.full in
-        let best = reach_is_best_lightest (seat_market w) levels weights forced forbidden (start_of d) d.rotations d.needs (amount_on (flow_by d)) (set_by d) c.ground cut.0 is_flow.is_flow reach unleft in
+        let unleft = (full_cuts_are_unleft net_by_levels (amount_on (flow_by d)) (set_by d) is_flow.is_flow cut.1).0 is_flow.full in
+        let best = reach_is_best_lightest (seat_market w) levels weights forced forbidden (start_of d) d.rotations d.needs (amount_on (flow_by d)) (set_by d) c.ground cut.0 is_flow.is_flow (subst (λ (net : Net). IsResidualReach net (amount_on (flow_by d)) (set_by d)) same_net reach) unleft in
         let one : (m : Places) → IsLightestSeated m ↔ IsLightestAllowed (seat_market w) levels weights forced forbidden m =
         (λ m. one_level (seat_market w) levels weights seconds forced forbidden m (weight_none (pair_second_by by w) (none_second by w e) (seating_of w) (seat_market w))) in
         ((one (seats_by d)).1 best.0, λ n light p. best.1 n ((one n).0 light) p)
@@ -404,7 +420,7 @@ module _ (w : Written) (by : Measure) (lines : List LineData) (r : IsRight (answ
 
     first_ends : (line : FlowLine) → HasEdge (net_by w by whole) line.from line.to → (line.from < length (rotations_in w lines) + 2) × (line.to < length (rotations_in w lines) + 2)
     first_ends line edge =
-        edges_are_on_nodes (seat_market w) (levels_of (seating_of w)) (weights_of by w (seating_of w)) (leveled w w.forced) (leveled w w.forbidden) (start_of w by whole) (rotations_in w lines) (all_needs_in lines) made.one_each needs_below line.from line.to edge
+        shown_edges_on_nodes by w (start_of w by whole) (rotations_in w lines) (all_needs_in lines) made.one_each needs_below line.from line.to edge
 
     flow_then : (k : ℕ) (x : LineData) → slice_get lines k ≡ Some x → Clauses (answer w (HeadData.Weight by)) (take k lines) x reason.NoEdge → Clauses (answer w (HeadData.Weight by)) (take k lines) x reason.OverRoom
         → IfSome (flow_in x) (IsNextFlow (net_by w by whole) flow_in first_ends refl (flows_in (take k lines)))
@@ -439,7 +455,7 @@ module _ (w : Written) (by : Measure) (lines : List LineData) (r : IsRight (answ
     module _ (e : two ≡ true) (p : Parted is_up_to_flow lines) (t : ThreeLines f.below) where
       second_ends : (line : FlowLine) → HasEdge (second_net_by w by whole) line.from line.to → (line.from < length (rotations_in w lines) + 2) × (line.to < length (rotations_in w lines) + 2)
       second_ends line edge =
-          second_edges_on_nodes (seat_market w) (levels_of (seating_of w)) (weights_of by w (seating_of w)) (seconds_by by w (seating_of w)) (leveled w w.forced) (leveled w w.forbidden) (start_of w by whole) (rotations_in w lines) (all_needs_in lines) (flow_by w by whole)
+          second_edges_on_nodes by w (start_of w by whole) (rotations_in w lines) (all_needs_in lines) (flow_by w by whole)
           made.one_each needs_below (λ a less. let there = sound.nodes a less in (omega (arith, there.0), omega (arith, there.1))) line.from line.to edge
 
       abbrev IsNextSecond : List FlowLine → FlowLine → Type 0

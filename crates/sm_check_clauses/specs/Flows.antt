@@ -11,13 +11,12 @@ use Rattle.sm_theory.specs.Weights.{gain_of}
 use Rattle.sm_theory.specs.Net.{Net, cut_of}
 use Rattle.sm_theory.specs.Flows.{IsResidualReach}
 use Rattle.sm_theory.specs.FlowLines.{amount_on, amount_from, IsNewEdge, IsWithinRoom, IsConserved}
-use Rattle.sm_theory.specs.Conditions.{net_of}
-use Rattle.sm_theory.specs.SecondNets.{second_net_of}
 use Rattle.sm_theory.specs.declared.flow_lines.FlowLine.{FlowLine}
 use Rattle.sm_seats.specs.SeatMarket.{seat_market}
-use Rattle.sm_seats.specs.Seating.{seating_of, levels_of, written_of}
-use Rattle.sm_seats.specs.Correspondence.{weights_of, leveled}
+use Rattle.sm_seats.specs.Seating.{seating_of, written_of}
+use Rattle.sm_seats.specs.Correspondence.{weights_of}
 use Rattle.sm_placed.specs.Levels.{has_two_levels, seconds_by}
+use Rattle.sm_placed.specs.ShownNet.{net_shown, second_net_shown}
 use Rattle.sm_report.specs.Lines.{LineData}
 use Rattle.sm_report.specs.Texts.{SINK}
 use Rattle.sm_check_clauses.specs.declared.verdicts.Reason.{Reason}
@@ -33,9 +32,7 @@ size_in w lines = length (rotations_in w lines)
 
 -- the net of gains, needs and conditions that the lines give
 abbrev pub net_in : Written → Measure → List LineData → Net
-net_in w by lines =
-    net_of (seat_market w) (levels_of (seating_of w)) (weights_of by w (seating_of w))
-    (leveled w w.forced) (leveled w w.forbidden) (first_of w lines) (rotations_in w lines) (all_needs_in lines)
+net_in w by lines = net_shown by w (first_of w lines) (rotations_in w lines) (all_needs_in lines)
 
 -- the node of an end that a line of flow names: the number of a rotation, or the sink; no node where there is no such rotation
 abbrev pub node_of : ℕ → ℕ → ℕ
@@ -106,8 +103,7 @@ second_level w by lines = record {
   total = second_total_in;
   weights = seconds_by by w (seating_of w);
   weight = second_of by w;
-  net = second_net_of (seat_market w) (levels_of (seating_of w)) (weights_of by w (seating_of w)) (seconds_by by w (seating_of w))
-      (leveled w w.forced) (leveled w w.forbidden) (first_of w lines) (rotations_in w lines) (all_needs_in lines)
+  net = second_net_shown by w (first_of w lines) (rotations_in w lines) (all_needs_in lines)
       (amount_on (flow_of w (first_level w by lines) lines));
 }
 

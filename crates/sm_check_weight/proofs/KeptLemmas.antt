@@ -10,17 +10,13 @@ use Rattle.sm_lists.specs.Rows.{row}
 use Rattle.sm_instance.specs.Written.{Written}
 use Rattle.sm_instance.specs.declared.kinds.Measure.{Measure}
 use Rattle.sm_theory.specs.Net.{Net}
-use Rattle.sm_theory.specs.Conditions.{net_of}
-use Rattle.sm_theory.specs.SecondNets.{second_net_of}
 use Rattle.sm_theory.specs.FlowLines.{IsConserved, IsNewEdge, amount_on, line_at}
 use Rattle.sm_theory.specs.declared.flow_lines.FlowLine.{FlowLine}
 use Rattle.sm_check_net.specs.CheckedNets.{NetParts, net_of_parts, NeedsAreOf, AreNumbersBelow, IsOnEdge}
 use Rattle.sm_check_net.specs.Second.{AreOnEdges}
-use Rattle.sm_check_net.proofs.EdgeLemmas.{edges_are_on_nodes}
 use Rattle.sm_seats.specs.SeatMarket.{seat_market}
-use Rattle.sm_seats.specs.Seating.{seating_of, levels_of}
-use Rattle.sm_seats.specs.Correspondence.{weights_of, leveled}
-use Rattle.sm_placed.specs.Levels.{has_two_levels, seconds_by}
+use Rattle.sm_placed.specs.Levels.{has_two_levels}
+use Rattle.sm_placed.specs.ShownNet.{net_shown, second_net_shown}
 use Rattle.sm_report.specs.Lines.{LineData, line_of}
 use Rattle.sm_report.specs.declared.lines.Line.{Line}
 use Rattle.sm_check_forms.specs.Layouts.{is_empty}
@@ -47,6 +43,7 @@ use Rattle.sm_check_weight.specs.Kept.{ClaimHolds, HasSecond, IsClaimOf, IsFlowO
 use Rattle.sm_check_weight.proofs.ClaimLemmas.{AreConserved, flow_found, second_flow_found, value_found, second_value_found, cut_found, second_cut_found, total_found, second_total_found, pair_found, end_found}
 use Rattle.sm_check_weight.proofs.FlowKeptLemmas.{on_net, flow_at, said_before, value_more, line_more}
 use Rattle.sm_check_weight.proofs.LevelLemmas.{IsSilent, IsSilentOn, IsPlain, silent, second_idle}
+use Rattle.sm_check_weight.proofs.ShownEdges.{shown_edges_on_nodes}
 use Rattle.sm_check_weight.proofs.SecondLemmas.{second_edges_on_nodes}
 use Rattle.sm_check_weight.proofs.SetLemmas.{length-set_of}
 
@@ -71,12 +68,11 @@ silent_behind _ e no_flow no_second none no_value no_cut no_total no_value2 no_c
 
 -- the nets of first seats, rotations and needs, and the second one of the lines of a flow
 abbrev net_by : Written → Measure → List (ℕ × ℕ) → List (List (ℕ × ℕ)) → List (List ℕ) → Net
-net_by w by firsts rotations needs = net_of (seat_market w) (levels_of (seating_of w)) (weights_of by w (seating_of w)) (leveled w w.forced) (leveled w w.forbidden) (seat_places_in (seat_market w) firsts) rotations needs
+net_by w by firsts rotations needs = net_shown by w (seat_places_in (seat_market w) firsts) rotations needs
 
 abbrev second_net_by : Written → Measure → List (ℕ × ℕ) → List (List (ℕ × ℕ)) → List (List ℕ) → List FlowLine → Net
 second_net_by w by firsts rotations needs flow =
-    second_net_of (seat_market w) (levels_of (seating_of w)) (weights_of by w (seating_of w)) (seconds_by by w (seating_of w)) (leveled w w.forced) (leveled w w.forbidden) (seat_places_in (seat_market w) firsts) rotations needs
-    (amount_on (map (on_nodes (length rotations)) flow))
+    second_net_shown by w (seat_places_in (seat_market w) firsts) rotations needs (amount_on (map (on_nodes (length rotations)) flow))
 
 -- a claim with the same parts
 pub same_parts : (after before : Claim) → after.net ≡ before.net → after.first ≡ before.first → after.second_net ≡ before.second_net → after.second ≡ before.second → after.taken ≡ before.taken → after.stood ≡ before.stood → after ≡ before
@@ -425,7 +421,7 @@ module _ {w : Written} {by : Measure} {lines above : List LineData} {claim : Cla
       there = found_on claim.first flow_in claim.net (net_in w by above) flow_is k.net line (flow_at k.first.flow x next (flow_line from to amount) refl)
 
       on_edge : IsNewEdge (net_in w by above) (flow_on w flow_in above) line → (line.from < size + 2) × (line.to < size + 2)
-      on_edge e = edges_are_on_nodes (seat_market w) (levels_of (seating_of w)) (weights_of by w (seating_of w)) (leveled w w.forced) (leveled w w.forbidden) (first_of w above) (rotations_in w above) (all_needs_in above) ground.one_each (needs_below ground) line.from line.to e.edge
+      on_edge e = shown_edges_on_nodes by w (first_of w above) (rotations_in w above) (all_needs_in above) ground.one_each (needs_below ground) line.from line.to e.edge
 
       shown : map (on_nodes size) (filter_map flow_in (above ++ x ∷ [])) ≡ flow_on w flow_in above ++ line ∷ []
       shown = ap (map (on_nodes size)) (said_one flow_in above x (flow_line from to amount) refl) ∙ map-append (on_nodes size) (filter_map flow_in above) (flow_line from to amount ∷ [])
@@ -471,7 +467,7 @@ module _ {w : Written} {by : Measure} {lines above : List LineData} {claim : Cla
       there = found_on claim.second second_flow_in net other (second_flow_is two) (second_net_is net is) line (flow_at (k.second two).flow x next (flow_line from to amount) refl)
 
       on_edge : IsNewEdge other (flow_on w second_flow_in above) line → (line.from < size + 2) × (line.to < size + 2)
-      on_edge e = second_edges_on_nodes (seat_market w) (levels_of (seating_of w)) (weights_of by w (seating_of w)) (seconds_by by w (seating_of w)) (leveled w w.forced) (leveled w w.forbidden) (first_of w above) (rotations_in w above) (all_needs_in above) (flow_on w flow_in above)
+      on_edge e = second_edges_on_nodes by w (first_of w above) (rotations_in w above) (all_needs_in above) (flow_on w flow_in above)
           ground.one_each (needs_below ground) k.first.flow.nodes line.from line.to e.edge
 
       by_result : (o : Option Reason) → FindsOrKeeps (NextHolds (net_of_parts net) (take claim.second.flow.count claim.second.flow.lines.items) (line_at claim.second.flow.lines.items claim.second.flow.count)) (after.flow.count ≡ claim.second.flow.count + 1) o

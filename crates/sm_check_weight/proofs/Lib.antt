@@ -6,6 +6,7 @@ pub mod LevelLemmas
 pub mod GainLemmas
 pub mod ClaimLemmas
 pub mod FlowKeptLemmas
+pub mod ShownEdges
 pub mod SecondLemmas
 pub mod KeptLemmas
 pub mod SetLemmas

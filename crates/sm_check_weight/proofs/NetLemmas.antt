@@ -21,8 +21,9 @@ use Rattle.sm_check_net.specs.Spans.{bonds_of, HaveFirstLevels, AreFirstBelow}
 use Rattle.sm_check_net.proofs.NetOfLemmas.{net_is}
 use Rattle.sm_seats.specs.SeatMarket.{seat_market}
 use Rattle.sm_seats.specs.Seating.{seating_of, levels_of}
-use Rattle.sm_seats.specs.Correspondence.{weights_of, leveled}
+use Rattle.sm_seats.specs.Correspondence.{IsSeating, weights_of, leveled}
 use Rattle.sm_seats.proofs.MarketLaws.{length-proposers}
+use Rattle.sm_placed.proofs.ShownNetLemmas.{net_is_shown}
 use Rattle.sm_report.specs.Lines.{LineData}
 use Rattle.sm_check_clauses.specs.declared.chain_walk.ChainWalk.{ChainWalk}
 use Rattle.sm_check_clauses.specs.Said.{rotations_in, all_needs_in}
@@ -94,10 +95,10 @@ module _ {w : Written} {above : List LineData} {walk : ChainWalk} (g : HasWholeP
   }
 
   -- the net that is made of them
-  pub net_made : (by : Measure) {levels : List (List ℕ)} {weights : List (List ℤ)} {gains : List ℤ} {needs : List (List ℕ)} {forced forbidden bonds : List (ℕ × ℕ)} {parts : NetParts} → levels ≡ levels_of (seating_of w) → weights ≡ weights_of by w (seating_of w)
+  pub net_made : IsSeating w (seating_of w) → (by : Measure) {levels : List (List ℕ)} {weights : List (List ℤ)} {gains : List ℤ} {needs : List (List ℕ)} {forced forbidden bonds : List (ℕ × ℕ)} {parts : NetParts} → levels ≡ levels_of (seating_of w) → weights ≡ weights_of by w (seating_of w)
       → gains ≡ map (gain_of (seat_market w) weights) (rotations_in w above) → needs ≡ all_needs_in above → forced ≡ leveled w w.forced → forbidden ≡ leveled w w.forbidden
       → bonds ≡ bonds_of levels walk.first.places.proposers (moves_in walk.moves.items) forced forbidden → HasParts parts gains needs bonds → net_of_parts parts ≡ net_in w by above
-  net_made by {levels} {weights} {gains} {needs} {forced} {forbidden} {bonds} {parts} l v e n f b m h =
+  net_made seating by {levels} {weights} {gains} {needs} {forced} {forbidden} {bonds} {parts} l v e n f b m h =
       let i = g.walk_of.is_walk.is_walk in
       let gains_are : gains ≡ map (gain_of (seat_market w) (weights_of by w (seating_of w))) (rotations_in w above) = e ∙ ap (λ (ws : List (List ℤ)). map (gain_of (seat_market w) ws) (rotations_in w above)) v in
       let bonds_are : bonds ≡ bonds_of (levels_of (seating_of w)) (first_of w above).proposers (moves_in walk.moves.items) (leveled w w.forced) (leveled w w.forbidden) =
@@ -109,3 +110,4 @@ module _ {w : Written} {above : List LineData} {walk : ChainWalk} (g : HasWholeP
       (subst (λ (x : List (ℕ × ℕ)). HasParts parts (map (gain_of (seat_market w) (weights_of by w (seating_of w))) (rotations_in w above)) (all_needs_in above) x) bonds_are
       (subst (λ (x : List (List ℕ)). HasParts parts (map (gain_of (seat_market w) (weights_of by w (seating_of w))) (rotations_in w above)) x bonds) n
       (subst (λ (x : List ℤ). HasParts parts x needs bonds) gains_are h)))
+      ∙ sym (net_is_shown seating (complete g.walk_of) by (all_needs_in above))

@@ -13,13 +13,14 @@ use Rattle.sm_theory.specs.Weights.{gain_of}
 use Rattle.sm_theory.specs.Net.{Net, sink_of, room_of, HasEdge, IsUnbounded}
 use Rattle.sm_theory.specs.FlowLines.{amount_on, line_at, AreOnNodes}
 use Rattle.sm_theory.specs.Conditions.{net_of}
-use Rattle.sm_theory.specs.SecondNets.{is_residual_step, second_net, second_net_of}
+use Rattle.sm_theory.specs.SecondNets.{is_residual_step, second_net}
 use Rattle.sm_theory.specs.declared.flow_lines.FlowLine.{FlowLine}
 use Rattle.sm_theory.proofs.Flow.Second.{step_of}
 use Rattle.sm_theory.proofs.Net.Tests.{and_parts}
 use Rattle.sm_seats.specs.SeatMarket.{seat_market}
-use Rattle.sm_seats.specs.Seating.{seating_of}
+use Rattle.sm_seats.specs.Seating.{seating_of, levels_of}
 use Rattle.sm_placed.specs.Levels.{seconds_by}
+use Rattle.sm_placed.specs.ShownNet.{net_shown, second_net_shown}
 use Rattle.sm_report.specs.Lines.{LineData}
 use Rattle.sm_check_net.specs.CheckedNets.{NetParts, net_of_parts, gain_at, AreNumbersBelow}
 use Rattle.sm_check_net.proofs.EdgeLemmas.{edges_are_on_nodes}
@@ -27,6 +28,7 @@ use Rattle.sm_check_net.proofs.ResidualLemmas.{has_part}
 use Rattle.sm_check_clauses.specs.Flows.{net_in, second_level}
 use Rattle.sm_check_clauses.specs.Said.{rotations_in, flow_in}
 use Rattle.sm_check_weight.specs.Kept.{flow_on}
+use Rattle.sm_check_weight.proofs.ShownEdges.{shown_edges_on_nodes}
 
 -- the ends of an amount of lines on nodes are nodes
 amount_on_nodes : (n : ℕ) (lines : List FlowLine) → AreOnNodes n lines → (i j : ℕ) → 0 < amount_on lines i j → (i < n) × (j < n)
@@ -44,32 +46,35 @@ amount_on_nodes n lines on i j some =
     ]
 
 -- the edges of the second net of a flow on nodes lead between its nodes
-pub second_edges_on_nodes : (l : Lists) (levels : List (List ℕ)) (weights seconds : List (List ℤ)) (forced forbidden : List (ℕ × ℕ)) (first : Places) (rotations : List (List (ℕ × ℕ))) (needs : List (List ℕ)) (lines : List FlowLine)
+pub second_edges_on_nodes : (by : Measure) (w : Written) (first : Places) (rotations : List (List (ℕ × ℕ))) (needs : List (List ℕ)) (lines : List FlowLine)
     → length needs ≡ length rotations → AreNumbersBelow (length rotations) needs → AreOnNodes (length rotations + 2) lines → (i j : ℕ)
-    → HasEdge (second_net_of l levels weights seconds forced forbidden first rotations needs (amount_on lines)) i j → (i < length rotations + 2) × (j < length rotations + 2)
-second_edges_on_nodes l levels weights seconds forced forbidden first rotations needs lines long below on i j edge = elim edge [ inl u ↦ by_step i j u | inr room ↦ by_room i j room ]
+    → HasEdge (second_net_shown by w first rotations needs (amount_on lines)) i j → (i < length rotations + 2) × (j < length rotations + 2)
+second_edges_on_nodes by w first rotations needs lines long below on i j edge = elim edge [ inl u ↦ by_step i j u | inr room ↦ by_room i j room ]
   where
     net : Net
-    net = net_of l levels weights forced forbidden first rotations needs
+    net = net_shown by w first rotations needs
 
-    by_step : (i j : ℕ) → IsUnbounded (second_net_of l levels weights seconds forced forbidden first rotations needs (amount_on lines)) i j → (i < length rotations + 2) × (j < length rotations + 2)
+    by_step : (i j : ℕ) → IsUnbounded (second_net_shown by w first rotations needs (amount_on lines)) i j → (i < length rotations + 2) × (j < length rotations + 2)
     by_step i zero u = absurd (false≢true u)
     by_step i (suc j) u =
         let s = step_of net (amount_on lines) i (suc j) (and_parts (not (suc j == 0)) (is_residual_step net (amount_on lines) i (suc j)) (and_parts (not (i == sink_of net)) (not (suc j == 0) && is_residual_step net (amount_on lines) i (suc j)) u).1).1 in
         elim s.step [
-          | inl unbounded ↦ edges_are_on_nodes l levels weights forced forbidden first rotations needs long below i (suc j) (inl unbounded)
+          | inl unbounded ↦ shown_edges_on_nodes by w first rotations needs long below i (suc j) (inl unbounded)
           | inr more ↦ elim more [
-            | inl less ↦ edges_are_on_nodes l levels weights forced forbidden first rotations needs long below i (suc j) (inr (omega (arith, less)))
+            | inl less ↦ shown_edges_on_nodes by w first rotations needs long below i (suc j) (inr (omega (arith, less)))
             | inr some ↦ let back = amount_on_nodes (length rotations + 2) lines on (suc j) i some in (back.1, back.0)
           ]
         ]
 
-    -- its rooms are those of the net of the second weights
-    by_room : (i j : ℕ) → 0 < room_of (second_net_of l levels weights seconds forced forbidden first rotations needs (amount_on lines)) i j → (i < length rotations + 2) × (j < length rotations + 2)
+    -- its rooms are those of a net of the second weights
+    second_room : (i j : ℕ) → HasEdge (net_of (seat_market w) (levels_of (seating_of w)) (seconds_by by w (seating_of w)) [] [] first rotations needs) i j → (i < length rotations + 2) × (j < length rotations + 2)
+    second_room = edges_are_on_nodes (seat_market w) (levels_of (seating_of w)) (seconds_by by w (seating_of w)) [] [] first rotations needs long below
+
+    by_room : (i j : ℕ) → 0 < room_of (second_net_shown by w first rotations needs (amount_on lines)) i j → (i < length rotations + 2) × (j < length rotations + 2)
     by_room zero zero some = absurd (omega arith)
     by_room (suc i) zero some = absurd (omega arith)
-    by_room zero (suc k) some = edges_are_on_nodes l levels seconds forced forbidden first rotations needs long below zero (suc k) (inr some)
-    by_room (suc i) (suc k) some = edges_are_on_nodes l levels seconds forced forbidden first rotations needs long below (suc i) (suc k) (inr some)
+    by_room zero (suc k) some = second_room zero (suc k) (inr some)
+    by_room (suc i) (suc k) some = second_room (suc i) (suc k) (inr some)
 
 -- gains that are made one after another are those of the rotations
 gains_at : (l : Lists) (seconds : List (List ℤ)) (rotations : List (List (ℕ × ℕ))) (k : ℕ) → gain_at (map (gain_of l seconds) rotations) k ≡ gain_of l seconds (rotation_at rotations k)

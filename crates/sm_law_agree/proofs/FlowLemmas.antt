@@ -10,17 +10,18 @@ use Rattle.std.proofs.lemmas.List.Folds.{list_any-append}
 use Rattle.std.proofs.lemmas.List.FromFn.{length-map-range_with_len, get_or-map-range_with_len}
 use Rattle.std.proofs.lemmas.List.Sums.{sum_by-append, sum_by-cons}
 use Rattle.sm_lists.proofs.Counting.{eq_or_ne}
-use Rattle.sm_market.specs.Lists.{Lists}
+use Rattle.sm_instance.specs.Written.{Written}
+use Rattle.sm_instance.specs.declared.kinds.Measure.{Measure}
 use Rattle.sm_market.specs.Matching.{Places}
 use Rattle.sm_theory.specs.ClosedSets.{is_member}
 use Rattle.sm_theory.specs.Net.{Net, sink_of, room_of, is_unbounded, IsUnbounded, HasEdge}
 use Rattle.sm_theory.specs.Flows.{IsFlow}
 use Rattle.sm_theory.specs.FlowLines.{line_at, amount_on, AreOnNodes, HaveSameEnds, IsNewEdge, IsWithinRoom, IsLineBefore, AreFlowLines}
-use Rattle.sm_theory.specs.Conditions.{net_of}
 use Rattle.sm_theory.specs.declared.flow_lines.FlowLine.{FlowLine}
 use Rattle.sm_theory.specs.SecondNets.{second_net}
 use Rattle.sm_theory.proofs.Flow.Second.{step_of_edge}
 use Rattle.sm_theory.proofs.Net.Tests.{and_parts}
+use Rattle.sm_placed.specs.ShownNet.{net_shown}
 use Rattle.sm_report.specs.Texts.{SINK}
 use Rattle.sm_answer_weight.specs.WeightAnswer.{shown_node, member_numbers}
 use Rattle.sm_answer_weight.proofs.MemberLemmas.{members_more}
@@ -129,14 +130,13 @@ no_room_through : (net : Net) → 0 < room_of net 0 (sink_of net) → ⊥
 no_room_through net room = let r : 0 < 0 = subst (λ b. 0 < (if b then net.supply net.size else 0)) (le-ltb net.size net.size (omega arith)) room in omega (arith, r)
 
 -- no edge of a net of gains, needs and conditions leads from the source to the sink
-pub none_through : (l : Lists) (levels : List (List ℕ)) (weights : List (List ℤ)) (forced forbidden : List (ℕ × ℕ)) (first : Places) (rotations : List (List (ℕ × ℕ))) (needs : List (List ℕ))
-    → HasEdge (net_of l levels weights forced forbidden first rotations needs) 0 (suc (length rotations)) → ⊥
-none_through l levels weights forced forbidden first rotations needs (inl u) =
+pub none_through : (by : Measure) (w : Written) (first : Places) (rotations : List (List (ℕ × ℕ))) (needs : List (List ℕ)) → HasEdge (net_shown by w first rotations needs) 0 (suc (length rotations)) → ⊥
+none_through by w first rotations needs (inl u) =
     let m = length rotations in
     let one = and_parts (not (0 == suc m)) _ u in
     let two = and_parts (not (0 == 0 && suc m == suc m)) _ one.1 in
     false≢true (sym (ap (λ t. not (0 == 0 && t)) (eq-eqb (suc m) (suc m) refl)) ∙ two.0)
-none_through l levels weights forced forbidden first rotations needs (inr room) = no_room_through (net_of l levels weights forced forbidden first rotations needs) room
+none_through by w first rotations needs (inr room) = no_room_through (net_shown by w first rotations needs) room
 
 -- and so no edge of the second net of a flow in such a net
 pub none_through_second : (net : Net) (flow : ℕ → ℕ → ℕ) (gains : ℕ → ℤ) → IsFlow net flow → (HasEdge net 0 (sink_of net) → ⊥) → HasEdge (second_net net flow gains) 0 (sink_of net) → ⊥

@@ -1,21 +1,25 @@
 -- What a residual reach has in the nets of an answer of `weight`: with each rotation all that it needs.
-use Rattle.std.proofs.Common.{◌≡◌, ◌≢◌, ℕ, suc, ◌<◌, ◌&&◌, ◌||◌, not, eqb, eqb-true, eq-eqb, nat_lt, inl, inr, arith, sym, ap, subst, Bool, true, false, List, length, ℤ}
+use Rattle.std.proofs.Common.{◌≡◌, ◌≢◌, ℕ, suc, ◌<◌, ◌&&◌, ◌||◌, not, eqb, eqb-true, eq-eqb, nat_lt, inl, inr, arith, sym, ap, subst, Bool, true, false, List, length}
 use Rattle.std.specs.List.{list_any}
 use Rattle.std.proofs.lemmas.Bool.{and_from, or_left, false_from_ne_true, lt-ltb}
 use Rattle.std.proofs.lemmas.List.Folds.{list_any_at}
 use Rattle.sm_lists.proofs.Counting.{eq_or_ne}
-use Rattle.sm_market.specs.Lists.{Lists, row}
+use Rattle.sm_instance.specs.Written.{Written}
+use Rattle.sm_instance.specs.declared.kinds.Measure.{Measure}
+use Rattle.sm_market.specs.Lists.{row}
 use Rattle.sm_market.specs.Matching.{Places}
 use Rattle.sm_theory.specs.Chains.{rotation_at, IsNeededBy, AreNeeds}
 use Rattle.sm_theory.specs.ClosedSets.{IsMember, IsClosed}
 use Rattle.sm_theory.specs.Net.{Net, sink_of, room_of, is_unbounded, IsUnbounded}
 use Rattle.sm_theory.specs.Flows.{IsResidualStep, IsResidualReach}
 use Rattle.sm_theory.specs.FlowLines.{amount_on}
-use Rattle.sm_theory.specs.Conditions.{forces, forbids, leads_to_need, net_of}
-use Rattle.sm_theory.specs.SecondNets.{second_net_of}
+use Rattle.sm_theory.specs.Conditions.{leads_to_need}
 use Rattle.sm_theory.specs.declared.flow_lines.FlowLine.{FlowLine}
 use Rattle.sm_theory.proofs.Net.Paths.{reach_on}
 use Rattle.sm_theory.proofs.Net.Tests.{not_same}
+use Rattle.sm_seats.specs.SeatMarket.{seat_market}
+use Rattle.sm_seats.specs.Seating.{seating_of}
+use Rattle.sm_placed.specs.ShownNet.{forces, forbids, net_shown, second_net_shown}
 use Rattle.sm_answer_weight.specs.WeightAnswer.{AreCertificates}
 
 -- with a rotation a reach has each one to which an unbounded edge leads
@@ -24,23 +28,23 @@ reach_more net flow set r i j a b member edge =
     let step : IsResidualStep net flow (suc j) (suc i) = record { in_range = omega (arith, a); step = inl edge } in
     (r.exact i a).1 (reach_on ((r.exact j b).0 member) step)
 
-module _ (l : Lists) (levels : List (List ℕ)) (weights seconds : List (List ℤ)) (forced forbidden : List (ℕ × ℕ)) (first : Places) (rotations : List (List (ℕ × ℕ))) (needs : List (List ℕ)) (needed : AreNeeds l rotations needs) where
+module _ (by : Measure) (w : Written) (first : Places) (rotations : List (List (ℕ × ℕ))) (needs : List (List ℕ)) (needed : AreNeeds (seat_market w) rotations needs) where
   abbrev net : Net
-  net = net_of l levels weights forced forbidden first rotations needs
+  net = net_shown by w first rotations needs
 
   -- what conditions lead to
   abbrev condition_edge : ℕ → ℕ → Bool
-  condition_edge i j = list_any (λ c. forces l levels first rotations c i j) forced || list_any (λ c. forbids l levels first rotations c i j) forbidden
+  condition_edge i j = list_any (λ pair. forces (seating_of w) first rotations pair i j) w.forced || list_any (λ pair. forbids (seating_of w) first rotations pair i j) w.forbidden
 
   abbrev other : (ℕ → ℕ → ℕ) → Net
-  other flow = second_net_of l levels weights seconds forced forbidden first rotations needs flow
+  other flow = second_net_shown by w first rotations needs flow
 
-  module _ (i j : ℕ) (a : i < length rotations) (b : j < length rotations) (need : IsNeededBy l (rotation_at rotations i) (rotation_at rotations j)) (apart : i ≢ j) where
+  module _ (i j : ℕ) (a : i < length rotations) (b : j < length rotations) (need : IsNeededBy (seat_market w) (rotation_at rotations i) (rotation_at rotations j)) (apart : i ≢ j) where
     -- an edge leads from a rotation to what it needs
     need_edge : IsUnbounded net (suc j) (suc i)
     need_edge =
-        let w = (needed.each j b).all i a need in
-        let test : leads_to_need needs (suc j) (suc i) ≡ true = list_any_at (λ x. eqb x i) (row needs j) w.0 i w.1 (eq-eqb _ _ w.2) in
+        let at = (needed.each j b).all i a need in
+        let test : leads_to_need needs (suc j) (suc i) ≡ true = list_any_at (λ x. eqb x i) (row needs j) at.0 i at.1 (eq-eqb _ _ at.2) in
         let inner : eqb (suc j) 0 ≡ false = false_from_ne_true (eqb (suc j) 0) (λ e. let z = eqb-true (suc j) 0 e in omega (arith, z)) in
         let across = eqb (suc j) 0 && eqb (suc i) (suc (length rotations)) in
         let kinds = leads_to_need needs (suc j) (suc i) || condition_edge (suc j) (suc i) in
@@ -58,14 +62,14 @@ module _ (l : Lists) (levels : List (List ℕ)) (weights seconds : List (List �
 
   -- a set that has whatever an edge leads to from a member is closed
   closed_by : (set : List Bool) → length set ≡ length rotations
-      → ((i j : ℕ) → i < length rotations → j < length rotations → IsMember set j → IsNeededBy l (rotation_at rotations i) (rotation_at rotations j) → i ≢ j → IsMember set i) → IsClosed l rotations set
+      → ((i j : ℕ) → i < length rotations → j < length rotations → IsMember set j → IsNeededBy (seat_market w) (rotation_at rotations i) (rotation_at rotations j) → i ≢ j → IsMember set i) → IsClosed (seat_market w) rotations set
   closed_by set one more = record {
     one_each = one;
     closed = λ i j a b member need. elim (eq_or_ne i j) [ inl e ↦ subst (IsMember set) (sym e) member | inr apart ↦ more i j a b member need apart ];
   }
 
   -- so the set of certificates is closed
-  pub certified_closed : (two : Bool) (flow second : List FlowLine) (taken : List Bool) → AreCertificates two net (other (amount_on flow)) flow second taken → IsClosed l rotations taken
+  pub certified_closed : (two : Bool) (flow second : List FlowLine) (taken : List Bool) → AreCertificates two net (other (amount_on flow)) flow second taken → IsClosed (seat_market w) rotations taken
   certified_closed true flow second taken c =
       let reach = c.1.reach in
       closed_by taken reach.one_each (λ i j a b member need apart.

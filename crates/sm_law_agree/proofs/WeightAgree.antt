@@ -20,11 +20,10 @@ use Rattle.sm_report.specs.Sound.{IsLineOf}
 use Rattle.sm_answer.specs.Lines.{lines_from}
 use Rattle.sm_seats.specs.SeatMarket.{seat_market}
 use Rattle.sm_seats.specs.SeatEntries.{AreFewSeats}
-use Rattle.sm_seats.specs.Seating.{Seating, seating_of, levels_of, written_of}
-use Rattle.sm_seats.specs.Correspondence.{leveled, weights_of}
+use Rattle.sm_seats.specs.Seating.{Seating, seating_of, written_of}
 use Rattle.sm_seats.proofs.CorrespondenceLaws.{is_seating, sound_entries}
 use Rattle.sm_seats.proofs.LawsProved.{few_seats_fit}
-use Rattle.sm_placed.specs.Levels.{has_two_levels, seconds_by}
+use Rattle.sm_placed.specs.Levels.{has_two_levels}
 use Rattle.sm_answer_rotations.specs.Reduction.{seat_line}
 use Rattle.sm_answer_rotations.proofs.ShownLemmas.{matching_is}
 use Rattle.sm_answer_weight.specs.WeightAnswer.{AreCertificates, WeightParts, net_in, second_net_in, matching_in, in_two, shown_node, flow_line, second_flow_line, second_figures}
@@ -274,10 +273,8 @@ module _ (w : Written) (by : Measure) (parts : WeightParts) (i : IsInstance w) (
 -- the law for `weight`
 pub weight_agrees : WeightAgrees
 weight_agrees w by lines i few a =
-    let s = seating_of w in
-    let l = seat_market w in
     let is = a.shows ∙ weight_shown by w a.parts a.printed.chain.from_best.stable.matching.proposers.one_each in
-    let closed = certified_closed l (levels_of s) (weights_of by w s) (seconds_by by w s) (leveled w w.forced) (leveled w w.forbidden) a.parts.first a.parts.rotations a.parts.needs a.needed
+    let closed = certified_closed by w a.parts.first a.parts.rotations a.parts.needs a.needed
     (has_two_levels by w) a.parts.flow a.parts.second a.parts.taken a.certificates in
     let matching = matching_is (is_seating (sound_entries i)) a.parts.needs a.printed.chain a.needed.each a.parts.taken in
     subst (GetYes (Two w)) (sym is) (weight_yes w by a.parts i few a.printed a.needed a.certificates closed matching a.lightest (subst (All (IsLineOf (Two w))) is a.sound))

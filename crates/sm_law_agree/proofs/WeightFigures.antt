@@ -8,22 +8,19 @@ use Rattle.sm_instance.specs.declared.kinds.Measure.{Measure}
 use Rattle.sm_instance.specs.Ranks.{weight_of, second_of}
 use Rattle.sm_market.specs.Lists.{Lists}
 use Rattle.sm_market.specs.Matching.{Places}
-use Rattle.sm_theory.specs.Chains.{rotation_at, IsCompleteChain}
+use Rattle.sm_theory.specs.Chains.{IsCompleteChain}
 use Rattle.sm_theory.specs.ClosedSets.{IsClosed, matching_of}
-use Rattle.sm_theory.specs.Weights.{gain_of}
 use Rattle.sm_theory.specs.Net.{Net, HasEdge, sink_of, cut_of}
 use Rattle.sm_theory.specs.Flows.{IsFlow, IsResidualReach}
 use Rattle.sm_theory.specs.FlowLines.{amount_on, amount_from, AreOnNodes, IsNewEdge, IsWithinRoom, IsConserved, AreFlowLines}
-use Rattle.sm_theory.specs.Conditions.{net_of}
-use Rattle.sm_theory.specs.SecondNets.{second_net_of}
 use Rattle.sm_theory.specs.declared.flow_lines.FlowLine.{FlowLine}
 use Rattle.sm_theory.proofs.Flow.Lines.{flow_of_lines}
 use Rattle.sm_report.specs.Lines.{LineData}
 use Rattle.sm_report.specs.Texts.{SINK}
 use Rattle.sm_seats.specs.SeatMarket.{seat_market}
-use Rattle.sm_seats.specs.Seating.{Seating, seating_of, levels_of, written_of}
-use Rattle.sm_seats.specs.Correspondence.{leveled, weights_of}
-use Rattle.sm_placed.specs.Levels.{has_two_levels, seconds_by}
+use Rattle.sm_seats.specs.Seating.{Seating, seating_of, written_of}
+use Rattle.sm_placed.specs.Levels.{has_two_levels}
+use Rattle.sm_placed.specs.ShownNet.{second_gain_shown, net_shown, second_net_shown}
 use Rattle.sm_answer_weight.specs.WeightAnswer.{FillsCut, IsCertificate, AreCertificates, WeightParts, net_in, second_net_in, matching_in, flow_line, second_flow_line, member_numbers}
 use Rattle.sm_check_clauses.specs.declared.verdicts.Reason.{Reason}
 use Rattle.sm_check_clauses.specs.Said.{pairs_in}
@@ -135,15 +132,14 @@ module _ {w : Written} {by : Measure} {parts : WeightParts} (right : IsRight w b
 
   -- what is said of the nets, of the flows and of the set
   abbrev net_by : Places → Said → Net
-  net_by f d = net_of l (levels_of s) (weights_of by w s) (leveled w w.forced) (leveled w w.forbidden) f d.rotations d.needs
+  net_by f d = net_shown by w f d.rotations d.needs
 
   abbrev flow_by : Said → List FlowLine
   flow_by d = map (on_nodes (length d.rotations)) d.flows
 
   -- the second net of a flow
   abbrev second_net_on : List FlowLine → Places → List (List (ℕ × ℕ)) → List (List ℕ) → Net
-  second_net_on lines f rotations needs =
-      second_net_of l (levels_of s) (weights_of by w s) (seconds_by by w s) (leveled w w.forced) (leveled w w.forbidden) f rotations needs (amount_on lines)
+  second_net_on lines f rotations needs = second_net_shown by w f rotations needs (amount_on lines)
 
   abbrev second_net_by : Places → Said → Net
   second_net_by f d = second_net_on (flow_by d) f d.rotations d.needs
@@ -171,10 +167,10 @@ module _ {w : Written} {by : Measure} {parts : WeightParts} (right : IsRight w b
   alone one = of_one net other flow second parts.taken (has_two_levels by w) one right.certificates
 
   through : HasEdge net 0 (sink_of net) → ⊥
-  through = none_through l (levels_of s) (weights_of by w s) (leveled w w.forced) (leveled w w.forbidden) first rotations needs
+  through = none_through by w first rotations needs
 
   second_through : HasEdge other 0 (sink_of other) → ⊥
-  second_through = none_through_second net (amount_on flow) (λ k. gain_of l (seconds_by by w s) (rotation_at rotations k)) fills.is_flow through
+  second_through = none_through_second net (amount_on flow) (second_gain_shown by w rotations) fills.is_flow through
 
   first_back : map (on_nodes m) (shown_flow parts flow) ≡ flow
   first_back = flow_back net flow parts.taken right.few fills through

@@ -17,13 +17,12 @@ use Rattle.sm_theory.specs.Weights.{gain_of}
 use Rattle.sm_theory.specs.Net.{Net, cut_of}
 use Rattle.sm_theory.specs.Flows.{IsResidualReach}
 use Rattle.sm_theory.specs.FlowLines.{amount_on, HaveSameEnds, IsNewEdge, IsWithinRoom}
-use Rattle.sm_theory.specs.Conditions.{net_of}
-use Rattle.sm_theory.specs.SecondNets.{second_net_of}
 use Rattle.sm_theory.specs.declared.flow_lines.FlowLine.{FlowLine}
 use Rattle.sm_seats.specs.SeatMarket.{seat_market}
-use Rattle.sm_seats.specs.Seating.{seating_of, levels_of, written_of}
-use Rattle.sm_seats.specs.Correspondence.{weights_of, leveled}
+use Rattle.sm_seats.specs.Seating.{seating_of, written_of}
+use Rattle.sm_seats.specs.Correspondence.{weights_of}
 use Rattle.sm_placed.specs.Levels.{has_two_levels, seconds_by}
+use Rattle.sm_placed.specs.ShownNet.{net_shown, second_net_shown}
 use Rattle.sm_report.specs.Heads.{HeadData}
 use Rattle.sm_report.specs.Lines.{LineData}
 use Rattle.sm_report.specs.declared.keywords.Keyword.TheVariants as keyword
@@ -168,7 +167,7 @@ module _ (w : Written) (by : Measure) where
     same_matching = same_of_set (taken_set w a) (taken_set w b) same_taken
 
     same_net : net_in w by a ≡ net_in w by b
-    same_net = λ i. net_of (seat_market w) (levels_of (seating_of w)) (weights_of by w (seating_of w)) (leveled w w.forced) (leveled w w.forbidden) (first_same i) (same_rotations i) (s.needs i)
+    same_net = λ i. net_shown by w (first_same i) (same_rotations i) (s.needs i)
 
     -- the flow of a level
     module _ (flow : LineData → Option FlowLine) (moved : IsPermutation (filter_map flow a) (filter_map flow b)) where
@@ -205,8 +204,7 @@ module _ (w : Written) (by : Measure) where
       weights = seconds_by by w (seating_of w);
       weight = second_of by w;
       net = net;
-    } in level) (λ i. second_net_of (seat_market w) (levels_of (seating_of w)) (weights_of by w (seating_of w)) (seconds_by by w (seating_of w)) (leveled w w.forced) (leveled w w.forbidden)
-        (first_same i) (same_rotations i) (s.needs i) (same_amounts flow_in s.flows i))
+    } in level) (λ i. second_net_shown by w (first_same i) (same_rotations i) (s.needs i) (same_amounts flow_in s.flows i))
 
     -- the clauses of a level
     level_carries : (level : Level) → IsPermutation (filter_map level.flow a) (filter_map level.flow b) → filter_map level.value a ≡ filter_map level.value b
@@ -357,8 +355,7 @@ module _ (w : Written) (by : Measure) where
 
   abbrev second_ground : List LineData → Net × ℕ
   second_ground lines = (
-    second_net_of (seat_market w) (levels_of (seating_of w)) (weights_of by w (seating_of w)) (seconds_by by w (seating_of w))
-        (leveled w w.forced) (leveled w w.forbidden) (first_of w lines) (rotations_in w lines) (all_needs_in lines) (amount_on (flow_of w (first_level w by lines) lines)),
+    second_net_shown by w (first_of w lines) (rotations_in w lines) (all_needs_in lines) (amount_on (flow_of w (first_level w by lines) lines)),
     size_in w lines,
   )
 
@@ -375,14 +372,13 @@ module _ (w : Written) (by : Measure) where
 
     first_stays : first_ground (above ++ u ∷ []) ≡ first_ground above
     first_stays = λ i. (
-      net_of (seat_market w) (levels_of (seating_of w)) (weights_of by w (seating_of w)) (leveled w w.forced) (leveled w w.forbidden) (seat_places_in (seat_market w) (firsts_stay i)) (rotations_stay i) (needs_stay i),
+      net_shown by w (seat_places_in (seat_market w) (firsts_stay i)) (rotations_stay i) (needs_stay i),
       length (rotations_stay i),
     )
 
     second_stays : flow_in u ≡ None → second_ground (above ++ u ∷ []) ≡ second_ground above
     second_stays d = λ i. (
-      second_net_of (seat_market w) (levels_of (seating_of w)) (weights_of by w (seating_of w)) (seconds_by by w (seating_of w)) (leveled w w.forced) (leveled w w.forbidden)
-          (seat_places_in (seat_market w) (firsts_stay i)) (rotations_stay i) (needs_stay i) (amount_on (map (on_nodes (length (rotations_stay i))) (said_same flow_in above u d i))),
+      second_net_shown by w (seat_places_in (seat_market w) (firsts_stay i)) (rotations_stay i) (needs_stay i) (amount_on (map (on_nodes (length (rotations_stay i))) (said_same flow_in above u d i))),
       length (rotations_stay i),
     )
 

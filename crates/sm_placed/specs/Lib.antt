@@ -1,2 +1,3 @@
 pub mod PlaceWeights
 pub mod Levels
+pub mod ShownNet

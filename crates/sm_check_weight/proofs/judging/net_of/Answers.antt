@@ -12,6 +12,7 @@ use Rattle.sm_seats.specs.SeatMarket.{seat_market}
 use Rattle.sm_seats.specs.Seating.{Seating}
 use Rattle.sm_seats.specs.Correspondence.{leveled}
 use Rattle.sm_seats.proofs.MarketLaws.{length-proposers}
+use Rattle.sm_seats.proofs.CorrespondenceLaws.{sound_entries, is_seating}
 use Rattle.sm_report.specs.Lines.{line_of}
 use Rattle.sm_check_clauses.specs.Said.{rotations_in}
 use Rattle.sm_check_clauses.specs.Walks.{AreChainMoves}
@@ -85,7 +86,7 @@ returns-clause-net c =
     let gains = c.in_ok-gains.ensures (seat_market w) rotations (subst (AreMovesByRotation (seat_market w) rotations) (sym (ap moves_in c.deref-2.ensures.value)) c.requires.ground.walk_of.is_walk.is_walk.moves.moves) in
     let levels = ap rows_of c.deref-3.ensures.value ∙ c.requires.tables.levels in
     let weights = ap weights_in c.deref.ensures.value ∙ c.requires.tables.weights in
-    net_made c.requires.ground c.args.weighed.now.by levels weights gains c.in_ok-needs.ensures
+    net_made c.requires.ground (is_seating (sound_entries c.forced.ensures.instance)) c.args.weighed.now.by levels weights gains c.in_ok-needs.ensures
     (c.deref-5.ensures.value ∙ c.in_ok-forced.ensures ∙ ap (leveled w) c.forced.ensures.pairs)
     (c.deref-6.ensures.value ∙ c.in_ok-forbidden.ensures ∙ ap (leveled w) c.forbidden.ensures.pairs)
     (rw c.deref-4.ensures.value at c.in_ok-bonds.ensures) c.of.ensures
