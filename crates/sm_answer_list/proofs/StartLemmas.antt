@@ -1,7 +1,7 @@
 -- What a lister of an instance is started with.
 use Rattle.std.proofs.Common.{ℕ, List}
-use Rattle.sm_instance.specs.Sound.{IsEachOnce}
-use Rattle.sm_instance.proofs.OrderLemmas.{each_once_long}
+use Rattle.sm_lists.specs.EachOnce.{IsEachOnce}
+use Rattle.sm_lists.proofs.OrderLemmas.{each_once_long}
 use Rattle.sm_theory.specs.Vectors.{IsOrder}
 
 -- an order that has each of so many numbers once is an order of them

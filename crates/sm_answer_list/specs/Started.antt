@@ -1,7 +1,7 @@
 -- A lister of an instance.
 use Rattle.std.specs.Prelude.{◌≡◌, ℕ, List, length, Option}
 use Rattle.sm_instance.specs.Written.{Written}
-use Rattle.sm_instance.specs.Sound.{IsEachOnce}
+use Rattle.sm_lists.specs.EachOnce.{IsEachOnce}
 use Rattle.sm_poset.specs.Posets.{IsPoset}
 use Rattle.sm_seats.specs.SeatMarket.{seat_market}
 use Rattle.sm_seats.specs.Seating.{seating_of, levels_of}

@@ -12,7 +12,7 @@ ghost use Rattle.sm_market.specs.Vectors.{rows_of};
 ghost use Rattle.sm_seats.specs.Seating.{seating_of, levels_of, at_places};
 ghost use Rattle.sm_seats.specs.Correspondence.{IsSeating, worse_ranks_of};
 ghost use Rattle.sm_answer_pairs.specs.RegretAnswer.{IsRegretAnswer};
-ghost use Rattle.sm_placed.specs.PlaceWeights.{AreAcceptableAt};
+ghost use Rattle.sm_seats.specs.PlaceWeights.{AreAcceptableAt};
 ghost use Rattle.sm_answer_pairs.specs.RegretFound.{IsLeastRegretOfSeats};
 
 use crate::least_regret::LeastRegret;

@@ -5,8 +5,8 @@ ghost use Rattle.sm_instance.specs.Sound.{IsInstance};
 ghost use Rattle.sm_seats.specs.Correspondence.{leveled};
 
 use sm_instance::Instance;
-use sm_placed::leveled;
 use sm_poset::Conditions;
+use sm_seats::leveled;
 use std::alloc::{AllocError, Global};
 
 /// The conditions of an instance by levels: a proposer and the rank of the reviewer that it has to have, or must not have.

@@ -7,7 +7,7 @@ use Rattle.sm_accept.specs.Accepting.{IsProgress}
 use Rattle.sm_seats.specs.Mutual.{mutual_row}
 use Rattle.sm_seats.specs.SeatMarket.{seat_count, seats_before, seat_market}
 use Rattle.sm_seats.specs.Tables.{seats_listed}
-use Rattle.sm_answer_solve.specs.declared.admitting.Proposal.{Proposal}
+use Rattle.sm_answer_solve.specs.declared.proposals.Proposal.{Proposal}
 
 -- a free seat of r stands one past r's list: one past that of the market, and one past the written one
 pub record IsFree (w : Written) (r standing written : ℕ) : Type 0 where

@@ -5,32 +5,25 @@
 //! next, and the last one has to go on (Gale and Shapley 1962; Gusfield and Irving 1989, section 1.6.3; Manlove 2013, section
 //! 3.2).
 
-ghost use Rattle.std.specs.Prelude.{◌≡◌, ℕ, ◌+◌, ◌<◌, length, IfOk, MatchOption};
+ghost use Rattle.std.specs.Prelude.{◌≡◌, ℕ, ◌+◌, ◌<◌, length, replicate, IfOk, OnOk, MatchOption};
 ghost use Rattle.sm_instance.specs.Sound.{IsInstance};
 ghost use Rattle.sm_instance.specs.Stable.{IsBestOf};
 ghost use Rattle.sm_instance.specs.declared.kinds.Side.{Side};
 ghost use Rattle.sm_seats.specs.Counted.{AreSeatCounts, first_seats_of};
-ghost use Rattle.sm_instance.specs.Written.{row, entry, IsAcceptable};
-ghost use Rattle.sm_answer_solve.specs.Admitting.{IsUnderWay, IsProposalAt, IsProposed, IsProposing, IsTurnedAway, end_at, ended_places};
+ghost use Rattle.sm_answer_solve.specs.Admitting.{AreFreeSeats, IsUnderWay, IsProposed, IsProposing, IsTurnedAway, end_at, ended_places};
 
+use crate::proposals::{Proposal, Proposals};
 use crate::seat_holders::free_seats;
 use sm_instance::{Assignment, Instance};
 use sm_seats::SeatCounts;
 use std::alloc::{AllocError, Global};
 
-/// A proposal: of a proposer to a reviewer, on whose written list it stands at a place.
-#[derive(Clone, Copy)]
-struct Proposal {
-    proposer: u32,
-    reviewer: u32,
-    place: u32,
-}
-
 /// The stable matching in which every proposer has the best reviewer that it has in any stable matching (Gale and Shapley
 /// 1962; Gusfield and Irving 1989, section 1.6.3). The counts have to be those of the instance.
 ///
 /// Takes time in proportion to the entries of the instance and to the proposals to its seats, of which there are no more than
-/// entries on the lists of the seats, and memory in proportion to the proposers and seats, none of it while proposals are made.
+/// entries on the lists of the seats, and memory in proportion to the proposers and seats, with that for the cross places of the
+/// instance where looking for single ones would take longer.
 ///
 /// # Errors
 ///
@@ -50,56 +43,65 @@ pub(crate) fn proposers_best(
     let places = places.as_mut_slice();
     let standings = standings.as_mut_slice();
     free_seats(instance, firsts, standings);
-    for p in 0..instance.proposer_count() {
-        let_propose(instance, firsts, p, places, standings);
-    }
+    let_all_propose(alloc, instance, firsts, places, standings)?;
     Ok(Assignment {
         places: ends(alloc, instance, places)?,
     })
+}
+
+/// Lets the proposers propose, one after another. Cross places are looked for one by one.
+fn let_all_propose(
+    alloc: Global,
+    instance: &Instance,
+    firsts: &[u32],
+    places: &mut [u32],
+    standings: &mut [u32],
+) -> Result<(), AllocError>
+    requires firsts { firsts.now ≡ first_seats_of instance.now }
+    requires none { places.old ≡ replicate (length instance.now.proposers) 0 }
+    requires free { AreFreeSeats instance.now standings.old }
+    ensures { OnOk result (IsUnderWay instance.now (length instance.now.proposers)
+        (length instance.now.proposers) places.new standings.new) }
+{
+    let mut proposals = Proposals::of(alloc, instance);
+    for p in 0..instance.proposer_count() {
+        let_propose(instance, &mut proposals, firsts, p, places, standings)?;
+    }
+    Ok(())
 }
 
 /// Lets one more proposer propose, and in turn each one that is turned away, until a free seat takes one or one is at the end
 /// of its list.
 fn let_propose(
     instance: &Instance,
+    proposals: &mut Proposals<'_>,
     firsts: &[u32],
     p: u32,
     places: &mut [u32],
     standings: &mut [u32],
-)
+) -> Result<(), AllocError>
     requires instance { IsInstance instance.now }
+    requires proposals { proposals.old ≡ instance.now }
     requires in_range { p < length instance.now.proposers }
     requires firsts { firsts.now ≡ first_seats_of instance.now }
     requires before { IsUnderWay instance.now p p places.old standings.old }
-    ensures { IsUnderWay instance.now (p + 1) (p + 1) places.new standings.new }
+    ensures same { proposals.new ≡ proposals.old }
+    ensures way { OnOk result
+        (IsUnderWay instance.now (p + 1) (p + 1) places.new standings.new) }
 {
     let mut away = p;
     'proposals: while places[away as usize] < instance.proposer_len(away) {
         let place = places[away as usize];
-        match proposal_at(instance, away, place) {
+        let next = proposals.at(instance, away, place)?;
+        match next {
             Some(proposal) => match propose(instance, firsts, proposal, places, standings) {
                 Some(turned_away) => away = turned_away,
-                None => return,
+                None => return Ok(()),
             },
             None => places[away as usize] = place + 1,
         }
     }
-}
-
-/// The proposal of a proposer at a place of its written list. There is none where the entry is inert.
-fn proposal_at(instance: &Instance, p: u32, place: u32) -> Option<Proposal>
-    requires in_range { p < length instance.now.proposers }
-    requires on_list { place < length (row instance.now.proposers p) }
-    ensures { MatchOption result
-        (¬ IsAcceptable instance.now p (entry instance.now.proposers p place))
-        (IsProposalAt instance.now p place) }
-{
-    let place_there = instance.proposer_crosses(p)[place as usize].place()?;
-    Some(Proposal {
-        proposer: p,
-        reviewer: instance.proposer_list(p)[place as usize],
-        place: place_there,
-    })
+    Ok(())
 }
 
 /// Lets a proposer propose to the seats of a reviewer in their order, and whoever loses a seat to it or to another one to those

@@ -6,6 +6,7 @@
 #![tactic(auto)]
 
 mod admitting;
+mod proposals;
 mod seat_holders;
 mod solution;
 

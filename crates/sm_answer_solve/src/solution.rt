@@ -28,7 +28,8 @@ pub struct Solution {
 /// 1989, section 1.6.3). The counts have to be those of the instance, of few enough seats.
 ///
 /// For the proposers it takes time in proportion to the entries of the instance and to the proposals to seats, and memory in
-/// proportion to the proposers and seats; for the reviewers time and memory linear in the entries of the seats' market.
+/// proportion to the proposers and seats, with that for the cross places of the instance where looking for single ones would
+/// take longer; for the reviewers time and memory linear in the entries of the seats' market.
 ///
 /// # Errors
 ///

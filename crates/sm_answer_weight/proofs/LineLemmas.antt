@@ -22,8 +22,8 @@ use Rattle.sm_theory.specs.Weights.{weight_of, gain_of}
 use Rattle.sm_poset.specs.Posets.{IsPoset}
 use Rattle.sm_seats.specs.Seating.{Seating, written_of}
 use Rattle.sm_seats.specs.Correspondence.{IsSeating, weights_of}
-use Rattle.sm_placed.specs.Levels.{seconds_by}
-use Rattle.sm_placed.proofs.SecondLemmas.{seconds_alike}
+use Rattle.sm_seats.specs.Levels.{seconds_by}
+use Rattle.sm_seats.proofs.SecondLemmas.{seconds_alike}
 use Rattle.sm_theory.specs.declared.flow_lines.FlowLine.{FlowLine}
 use Rattle.sm_weight.specs.Lightest.{set_matching}
 use Rattle.sm_weight.proofs.CountLemmas.{pairs_of_few}

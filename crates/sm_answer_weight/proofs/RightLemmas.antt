@@ -21,10 +21,10 @@ use Rattle.sm_poset.specs.Posets.{RotationPoset, IsPoset, poset_of}
 use Rattle.sm_seats.specs.SeatMarket.{seat_market}
 use Rattle.sm_seats.specs.Seating.{Seating, seating_of, written_of, levels_of}
 use Rattle.sm_seats.specs.Correspondence.{IsSeating, leveled, weights_of}
-use Rattle.sm_placed.specs.Levels.{has_two_levels, pair_second_by, seconds_by}
-use Rattle.sm_placed.proofs.LevelLemmas.{none_second}
-use Rattle.sm_placed.proofs.SecondLemmas.{read_zero, gain_none, lightest_by_both}
-use Rattle.sm_placed.proofs.ShownNetLemmas.{net_is_shown, second_net_is_shown}
+use Rattle.sm_seats.specs.Levels.{has_two_levels, pair_second_by, seconds_by}
+use Rattle.sm_seats.proofs.LevelLemmas.{none_second}
+use Rattle.sm_seats.proofs.SecondLemmas.{read_zero, gain_none, lightest_by_both}
+use Rattle.sm_seats.proofs.ShownNetLemmas.{net_is_shown, second_net_is_shown}
 use Rattle.sm_theory.specs.declared.flow_lines.FlowLine.{FlowLine}
 use Rattle.sm_weight.specs.Lightest.{IsFullFlow, AreFullFlows, AreZero, IsOfOneLevel, IsLightestFound, set_matching}
 use Rattle.sm_theory.specs.Net.{Net, cut_of}

@@ -14,10 +14,10 @@ use Rattle.sm_theory.specs.Rotations.{proposer_at, reviewer_at, target_at}
 use Rattle.sm_theory.specs.Weights.{total, weight_at, weight_of, weight_of_place, gain_of}
 use Rattle.std.proofs.Common.{Option, Some, None}
 use Rattle.sm_seats.specs.Seating.{Seating, at_places}
-use Rattle.sm_placed.specs.Levels.{has_two_levels, seconds_by}
-use Rattle.sm_placed.specs.PlaceWeights.{IsLight, AreLight}
-use Rattle.sm_placed.proofs.PlaceLemmas.{light_at}
-use Rattle.sm_placed.proofs.LevelLemmas.{in_one_level}
+use Rattle.sm_seats.specs.Levels.{has_two_levels, seconds_by}
+use Rattle.sm_seats.specs.PlaceWeights.{IsLight, AreLight}
+use Rattle.sm_seats.proofs.PlaceLemmas.{light_at}
+use Rattle.sm_seats.proofs.LevelLemmas.{in_one_level}
 
 sum_size : (a b : ℤ) (n : ℕ) → unsigned_abs a ≤ 2000000000 * n → unsigned_abs b ≤ 2000000000 → unsigned_abs (a +ℤ b) ≤ 2000000000 * suc n
 sum_size a b n x y = omega (arith, ints)

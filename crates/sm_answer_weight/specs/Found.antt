@@ -10,8 +10,8 @@ use Rattle.sm_theory.specs.declared.flow_lines.FlowLine.{FlowLine}
 use Rattle.sm_weight.specs.declared.weighing.LightestFound.{LightestFound}
 use Rattle.sm_weight.specs.Lightest.{IsLightestFound, set_matching}
 use Rattle.sm_answer_weight.specs.WeightAnswer.{shown_node}
-use Rattle.sm_placed.specs.PlaceWeights.{AreLight}
-use Rattle.sm_placed.specs.Levels.{has_two_levels, seconds_by}
+use Rattle.sm_seats.specs.PlaceWeights.{AreLight}
+use Rattle.sm_seats.specs.Levels.{has_two_levels, seconds_by}
 use Rattle.sm_answer_weight.specs.declared.lightest_parts.Lightest.{Lightest}
 
 -- a line of a flow with its ends as lines of answers name them

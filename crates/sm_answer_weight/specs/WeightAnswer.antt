@@ -18,8 +18,8 @@ use Rattle.sm_theory.specs.Net.{Net, cut_of}
 use Rattle.sm_theory.specs.Flows.{IsFlow, flow_value, IsResidualReach}
 use Rattle.sm_seats.specs.SeatMarket.{seat_market}
 use Rattle.sm_seats.specs.Seating.{seating_of}
-use Rattle.sm_placed.specs.Levels.{has_two_levels}
-use Rattle.sm_placed.specs.ShownNet.{gain_shown, second_gain_shown, net_shown, second_net_shown}
+use Rattle.sm_seats.specs.Levels.{has_two_levels}
+use Rattle.sm_seats.specs.ShownNet.{gain_shown, second_gain_shown, net_shown, second_net_shown}
 use Rattle.sm_theory.specs.declared.flow_lines.FlowLine.{FlowLine}
 use Rattle.sm_theory.specs.FlowLines.{amount_on, AreFlowLines}
 use Rattle.sm_answer.specs.MatchingLines.{pair_line}

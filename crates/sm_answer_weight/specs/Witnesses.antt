@@ -11,7 +11,7 @@ use Rattle.sm_report.specs.Texts.{SOURCE, SINK}
 use Rattle.sm_report.specs.Witnesses.{first_seat_of}
 use Rattle.sm_seats.specs.Seating.{seating_of}
 use Rattle.sm_seats.specs.Witnesses.{turning_hospitals, firsts}
-use Rattle.sm_placed.specs.ShownNet.{entry_node, exit_node, net_shown}
+use Rattle.sm_seats.specs.ShownNet.{entry_node, exit_node, net_shown}
 use Rattle.sm_theory.specs.Witnesses.{three_cycle_first, three_cycle_chain}
 use Rattle.sm_theory.specs.WitnessesFlows.{three_cycle_needs}
 use Rattle.sm_theory.specs.WitnessesLines.{three_cycle_lines}

@@ -33,11 +33,11 @@ use Rattle.sm_seats.specs.Seating.{seating_of, levels_of, written_of}
 use Rattle.sm_seats.specs.Correspondence.{weights_of, leveled, IsSeating}
 use Rattle.sm_seats.proofs.CorrespondenceLaws.{sound_entries, is_seating}
 use Rattle.sm_seats.proofs.MarketLaws.{is_market}
-use Rattle.sm_placed.specs.Levels.{has_two_levels, pair_second_by, seconds_by}
-use Rattle.sm_placed.specs.ShownNet.{net_shown, second_net_shown}
-use Rattle.sm_placed.proofs.LevelLemmas.{none_second}
-use Rattle.sm_placed.proofs.SecondLemmas.{weight_none, lightest_by_both}
-use Rattle.sm_placed.proofs.ShownNetLemmas.{net_is_shown, second_net_is_shown}
+use Rattle.sm_seats.specs.Levels.{has_two_levels, pair_second_by, seconds_by}
+use Rattle.sm_seats.specs.ShownNet.{net_shown, second_net_shown}
+use Rattle.sm_seats.proofs.LevelLemmas.{none_second}
+use Rattle.sm_seats.proofs.SecondLemmas.{weight_none, lightest_by_both}
+use Rattle.sm_seats.proofs.ShownNetLemmas.{net_is_shown, second_net_is_shown}
 use Rattle.sm_report.specs.Heads.{HeadData}
 use Rattle.sm_report.specs.Lines.{LineData}
 use Rattle.sm_check_forms.specs.declared.layouts.LayoutPart.{LayoutPart}

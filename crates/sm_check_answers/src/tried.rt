@@ -212,7 +212,7 @@ fn blocks_back(instance: &Instance, a: &Assignment, r: u32, place: u32) -> bool
         place) r }
 {
     let p = instance.reviewer_list(r)[place as usize];
-    match instance.reviewer_crosses(r)[place as usize].place() {
+    match instance.cross_back(r, place) {
         Some(back) => back < instance.standing(a, p),
         None => false,
     }

@@ -7,7 +7,7 @@ ghost use Rattle.sm_theory.specs.Rooms.{AreRoomLists, IsAcceptable};
 ghost use Rattle.sm_check_decide.specs.Rooms.{AreStandings, IsUnblockedAt, LikesMore};
 ghost use Rattle.sm_check_decide.specs.Accepted.{IsAcceptedAt};
 
-use sm_lists::{CrossPlaces, KeptPlace, Naming, Packed, cross_places};
+use sm_lists::{CrossPlaces, KeptPlace, Naming, Packed, cross_places, namings};
 use std::alloc::{AllocError, Global};
 use std::marker::Model;
 
@@ -41,7 +41,8 @@ impl<'a> RoomLists<'a> {
         requires sound { AreRoomLists (lists_in lists.items) }
         ensures { IfOk result (λ m. m ≡ lists_in lists.entry.items) }
     {
-        let crosses: CrossPlaces<u32, Naming> = cross_places(alloc, &lists, &lists)?;
+        let namings: Packed<Naming> = namings(alloc, &lists, &lists)?;
+        let crosses: CrossPlaces<u32> = cross_places(alloc, &lists, &lists, &namings)?;
         Ok(RoomLists {
             lists,
             crosses: crosses.rows,

@@ -4,7 +4,7 @@ use Rattle.std.specs.List.{list_all}
 use Rattle.sm_instance.specs.Written.{Written}
 use Rattle.sm_instance.specs.declared.inputs.Input.{Input}
 use Rattle.sm_instance.specs.declared.inputs.Input.TheVariants.{Two, Room}
-use Rattle.sm_placed.specs.Levels.{has_two_levels}
+use Rattle.sm_seats.specs.Levels.{has_two_levels}
 use Rattle.sm_report.specs.Heads.{HeadData}
 use Rattle.sm_report.specs.Lines.{LineData}
 use Rattle.sm_report.specs.Texts.{text_of_line}

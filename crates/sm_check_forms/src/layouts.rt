@@ -11,8 +11,8 @@ ghost use Rattle.sm_check_forms.specs.Forms.{opening_of, number_in, layouts_of, 
 ghost use Rattle.sm_check_forms.specs.Lefts.{IsFit, IsTurn, AreTurns, IsTakenAt, IsRunning, AreRunning, layout_left, layouts_left};
 
 use sm_instance::{Input, Instance};
-use sm_placed::has_two_levels;
 use sm_report::{Head, Keyword, Line, keyword_of};
+use sm_seats::has_two_levels;
 use std::alloc::{AllocError, Global};
 
 /// Whose turn it is among blocks of two lines, `rotation` and `needs`, of three, with `gain` behind them, or of four, with `gain2` as

@@ -6,7 +6,7 @@ use Rattle.sm_instance.specs.Ranks.{second_of, second_weight_of}
 use Rattle.sm_instance.specs.declared.kinds.Measure.{Measure}
 use Rattle.sm_instance.specs.declared.kinds.Measure.TheVariants.{Ranks, Given}
 use Rattle.sm_theory.specs.FlowLines.{IsConserved}
-use Rattle.sm_placed.specs.Levels.{has_two_levels}
+use Rattle.sm_seats.specs.Levels.{has_two_levels}
 use Rattle.sm_report.specs.Lines.{LineData}
 use Rattle.sm_check_clauses.specs.declared.verdicts.Reason.{Reason}
 use Rattle.sm_check_clauses.specs.declared.verdicts.Reason.TheVariants as reason

@@ -20,7 +20,7 @@ use Rattle.sm_check_clauses.specs.Walks.{AreChainMoves}
 use Rattle.sm_check_clauses.proofs.AnswerLemmas.{said_same}
 use Rattle.sm_check_clauses.specs.Said.{rotation_in, rotations_in, is_up_to_rotations}
 use Rattle.sm_check_clauses.specs.Flows.{first_level, second_level, LevelHolds}
-use Rattle.sm_placed.specs.Levels.{has_two_levels, seconds_by}
+use Rattle.sm_seats.specs.Levels.{has_two_levels, seconds_by}
 use Rattle.sm_check_clauses.specs.Verdicts.{IsFirstThere}
 use Rattle.sm_check_weight.specs.Kept.{ClaimHolds}
 use Rattle.sm_check_weight.proofs.ClauseLemmas.{early}

@@ -15,8 +15,8 @@ use Rattle.sm_theory.specs.declared.flow_lines.FlowLine.{FlowLine}
 use Rattle.sm_check_net.specs.CheckedNets.{NetParts, net_of_parts, NeedsAreOf, AreNumbersBelow, IsOnEdge}
 use Rattle.sm_check_net.specs.Second.{AreOnEdges}
 use Rattle.sm_seats.specs.SeatMarket.{seat_market}
-use Rattle.sm_placed.specs.Levels.{has_two_levels}
-use Rattle.sm_placed.specs.ShownNet.{net_shown, second_net_shown}
+use Rattle.sm_seats.specs.Levels.{has_two_levels}
+use Rattle.sm_seats.specs.ShownNet.{net_shown, second_net_shown}
 use Rattle.sm_report.specs.Lines.{LineData, line_of}
 use Rattle.sm_report.specs.declared.lines.Line.{Line}
 use Rattle.sm_check_forms.specs.Layouts.{is_empty}

@@ -4,7 +4,7 @@ use Rattle.std.specs.Prelude.{if◌then◌else◌}
 use Rattle.std.proofs.lemmas.Bool.{false≢true}
 use Rattle.sm_instance.specs.Written.{Written}
 use Rattle.sm_instance.specs.declared.kinds.Measure.{Measure}
-use Rattle.sm_placed.specs.Levels.{has_two_levels}
+use Rattle.sm_seats.specs.Levels.{has_two_levels}
 use Rattle.sm_report.specs.Lines.{LineData}
 use Rattle.sm_check_clauses.specs.declared.verdicts.Reason.{Reason}
 use Rattle.sm_check_clauses.specs.declared.verdicts.Reason.TheVariants as reason

@@ -23,7 +23,7 @@ use Rattle.sm_seats.specs.SeatMarket.{seat_market}
 use Rattle.sm_seats.specs.Seating.{seating_of, levels_of}
 use Rattle.sm_seats.specs.Correspondence.{IsSeating, weights_of, leveled}
 use Rattle.sm_seats.proofs.MarketLaws.{length-proposers}
-use Rattle.sm_placed.proofs.ShownNetLemmas.{net_is_shown}
+use Rattle.sm_seats.proofs.ShownNetLemmas.{net_is_shown}
 use Rattle.sm_report.specs.Lines.{LineData}
 use Rattle.sm_check_clauses.specs.declared.chain_walk.ChainWalk.{ChainWalk}
 use Rattle.sm_check_clauses.specs.Said.{rotations_in, all_needs_in}

@@ -19,8 +19,8 @@ use Rattle.sm_theory.proofs.Flow.Second.{step_of}
 use Rattle.sm_theory.proofs.Net.Tests.{and_parts}
 use Rattle.sm_seats.specs.SeatMarket.{seat_market}
 use Rattle.sm_seats.specs.Seating.{seating_of, levels_of}
-use Rattle.sm_placed.specs.Levels.{seconds_by}
-use Rattle.sm_placed.specs.ShownNet.{net_shown, second_net_shown}
+use Rattle.sm_seats.specs.Levels.{seconds_by}
+use Rattle.sm_seats.specs.ShownNet.{net_shown, second_net_shown}
 use Rattle.sm_report.specs.Lines.{LineData}
 use Rattle.sm_check_net.specs.CheckedNets.{NetParts, net_of_parts, gain_at, AreNumbersBelow}
 use Rattle.sm_check_net.proofs.EdgeLemmas.{edges_are_on_nodes}

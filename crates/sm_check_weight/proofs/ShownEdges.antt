@@ -15,7 +15,7 @@ use Rattle.sm_check_net.proofs.EdgeLemmas.{edges_are_on_nodes}
 use Rattle.sm_seats.specs.SeatMarket.{seat_market}
 use Rattle.sm_seats.specs.Seating.{Seating, seating_of, levels_of}
 use Rattle.sm_seats.specs.Correspondence.{weights_of}
-use Rattle.sm_placed.specs.ShownNet.{is_at_seat_of, enters, leaves, entry_node, exit_node, forces, forbids, net_shown}
+use Rattle.sm_seats.specs.ShownNet.{is_at_seat_of, enters, leaves, entry_node, exit_node, forces, forbids, net_shown}
 
 module _ (s : Seating) (first : Places) (rotations : List (List (ℕ × ℕ))) where
   entry_below : (pair : ℕ × ℕ) → entry_node s first rotations pair < length rotations + 2

@@ -36,7 +36,7 @@ use Rattle.sm_check_weight.specs.declared.flow_lines.Flow.{Flow}
 use Rattle.sm_check_weight.specs.declared.said.SaidFlow.{SaidFlow}
 use Rattle.sm_check_net.specs.Second.{AreOnEdges}
 use Rattle.sm_check_net.specs.declared.net.CheckedNet.{CheckedNet}
-use Rattle.sm_placed.specs.Levels.{has_two_levels, seconds_by}
+use Rattle.sm_seats.specs.Levels.{has_two_levels, seconds_by}
 use Rattle.sm_check_weight.specs.declared.taken.Taken.{Taken}
 
 -- the clauses on what stands behind the rotations

@@ -28,9 +28,8 @@ use sm_check_answers::{RotationsJudge, Stood};
 use sm_check_clauses::{ChainWalk, Judge, Reason, Verdict, is_up_to_rotations};
 use sm_check_net::{CheckedNet, bonds, second_net};
 use sm_instance::{Instance, Measure};
-use sm_placed::{has_two_levels, leveled, seconds_of_places, weights_of_places};
 use sm_report::Line;
-use sm_seats::Seats;
+use sm_seats::{Seats, has_two_levels, leveled, seconds_of_places, weights_of_places};
 use std::alloc::{AllocError, Global};
 
 /// An instance and its seats, and the measure by which its matchings are weighed.

@@ -40,6 +40,11 @@ cross_fits {w} i r p (Some k) h =
     let few = i.limits.proposers in
     omega arith
 
+-- what fits fits where there is more room
+pub fits_more : (o : Option ℕ) {most more : ℕ} → most ≤ more → IfSome o (λ i. i < most) → IfSome o (λ i. i < more)
+fits_more None le fits = tt
+fits_more (Some i) le fits = omega arith
+
 -- the test of acceptability, where the place of r on p's list is known
 pub acceptable_at : (w : Written) (p r i : ℕ) → Some i ≡ cross_place w.proposers p r → (o : Option ℕ) → o ≡ cross_place w.reviewers (entry w.proposers p i) p → (b : Bool) → b ≡ is_some o
     → (IsTrue b → IsAcceptable w p r) × (IsAcceptable w p r → IsTrue b)

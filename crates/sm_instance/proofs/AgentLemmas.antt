@@ -1,11 +1,12 @@
 -- Agents of a side, one after another: their entries and their names.
-use Rattle.std.proofs.Common.{◌≡◌, ◌≢◌, ℕ, ◌+◌, ◌<◌, ◌≤◌, ◌++◌, ◌∷◌, [], Bool, true, false, List, length, get_or, take, refl, sym, ap, ◌∙◌, arith}
+use Rattle.std.proofs.Common.{◌≡◌, ◌≢◌, ℕ, ◌+◌, ◌<◌, ◌≤◌, ◌++◌, ◌∷◌, [], Bool, true, false, List, Option, Some, None, position, length, get_or, take, refl, sym, ap, ◌∙◌, arith}
 use Rattle.std.proofs.lemmas.Bool.{false≢true}
 use Rattle.std.proofs.lemmas.List.{get_or-map, get_or_default, length-map, take_more, get_or-take, length-take}
-use Rattle.std.proofs.lemmas.List.Sums.{sum_by_more, sum_by-take-le}
+use Rattle.std.proofs.lemmas.Bool.Decides.{nat_tests}
+use Rattle.std.proofs.lemmas.List.Sums.{sum_by_more, sum_by-take-le, position_or_len_is}
 use Rattle.std.proofs.lemmas.List.Folds.{list_any_at, Any-from_list_any}
 use Rattle.std.proofs.lemmas.Slice.Eq.{bytes_eq-Decides}
-use Rattle.std.specs.List.{list_any}
+use Rattle.std.specs.List.{list_any, position_or_len}
 use Rattle.std.specs.Str.{bytes_eq}
 use Rattle.sm_instance.specs.declared.agents.Agent.{Agent}
 use Rattle.sm_instance.specs.Written.{AgentData, no_agent, agent_at, names_of}
@@ -67,3 +68,23 @@ pub names_more : (agents : List AgentData) (a : ℕ) (names : List (List ℕ)) (
 names_more agents a names name below told is =
     ap (λ t. t ++ name ∷ []) told ∙ ap (λ t. take a (names_of agents) ++ t ∷ []) (is ∙ sym (get_or-names agents a below))
     ∙ sym (take_more (names_of agents) a [] (omega (arith, length-names agents)))
+
+-- the first agent with a name
+pub name_found : (agents : List AgentData) (name : List ℕ) (a : ℕ) → a < length agents → ((b : ℕ) → b < a → bytes_eq name (agent_at agents b).name ≡ false) → bytes_eq name (agent_at agents a).name ≡ true
+    → Some a ≡ position (bytes_eq name) (names_of agents)
+name_found agents name a on before is =
+    let long = length-names agents in
+    let place : position_or_len (bytes_eq name) (names_of agents) ≡ a = position_or_len_is (bytes_eq name) (names_of agents) a [] (omega arith)
+    (λ b l. ap (bytes_eq name) (get_or-names agents b (omega arith)) ∙ before b l)
+    (λ _. ap (bytes_eq name) (get_or-names agents a on) ∙ is) in
+    grind (arith, nat_tests)
+
+-- no agent with a name
+pub name_missing : (agents : List AgentData) (name : List ℕ) → ((b : ℕ) → b < length agents → bytes_eq name (agent_at agents b).name ≡ false)
+    → let none : Option ℕ = None in none ≡ position (bytes_eq name) (names_of agents)
+name_missing agents name none =
+    let long = length-names agents in
+    let place : position_or_len (bytes_eq name) (names_of agents) ≡ length (names_of agents) = position_or_len_is (bytes_eq name) (names_of agents) (length (names_of agents)) [] (omega arith)
+    (λ b l. ap (bytes_eq name) (get_or-names agents b (omega arith)) ∙ none b (omega arith))
+    (λ l. absurd (omega arith)) in
+    grind (arith, nat_tests)

@@ -8,7 +8,7 @@ use Rattle.sm_instance.specs.Matching.{standing, IsMatching}
 use Rattle.sm_instance.specs.Stable.{Blocks, IsStable, IsFirstBlocking, IsGainLimit}
 use Rattle.sm_instance.specs.Kept.{naming_at, AreNamingsOf, cross_place}
 use Rattle.sm_instance.specs.Loads.{IsFirstBlockingWith, IsFirstPairBelow, IsFirstBelow, is_sooner, sooner_of}
-use Rattle.sm_instance.specs.declared.namings.Naming.{Naming}
+use Rattle.sm_lists.specs.declared.compact_naming.CompactNaming.{CompactNaming}
 use Rattle.sm_instance.proofs.ListLemmas.{row_in_range}
 use Rattle.sm_instance.proofs.PlaceLemmas.{place_of-entry}
 use Rattle.sm_lists.proofs.PlaceLemmas.{get_or-place_on}
@@ -28,7 +28,7 @@ blocks_by {w} {places} inst p i k limit on cross gain =
     )
 
 -- who blocks with r names it
-pub blocking_named : {w : Written} {places : List (Option ℕ)} {r : ℕ} {all : List Naming} → AreNamingsOf w.proposers r all → (e : ℕ) → e ≤ length all → ((f : ℕ) → f < e → ¬ Blocks w places (naming_at all f).by r)
+pub blocking_named : {w : Written} {places : List (Option ℕ)} {r : ℕ} {all : List CompactNaming} → AreNamingsOf w.proposers r all → (e : ℕ) → e ≤ length all → ((f : ℕ) → f < e → ¬ Blocks w places (naming_at all f).by r)
     → (q : ℕ) → ((f : ℕ) → e ≤ f → f < length all → q < (naming_at all f).by) → ¬ Blocks w places q r
 blocking_named {w} {places} {r} {all} named e le none q before h =
     let a = h.acceptable in
@@ -40,7 +40,7 @@ blocking_named {w} {places} {r} {all} named e le none q before h =
     (cases_lt n.at e)
 
 -- where no earlier naming of r blocks and this one does, it is the first that blocks with r
-pub first_at : {w : Written} {places : List (Option ℕ)} {r : ℕ} {all : List Naming} → IsInstance w → AreNamingsOf w.proposers r all → (e : ℕ) → e < length all → ((f : ℕ) → f < e → ¬ Blocks w places (naming_at all f).by r)
+pub first_at : {w : Written} {places : List (Option ℕ)} {r : ℕ} {all : List CompactNaming} → IsInstance w → AreNamingsOf w.proposers r all → (e : ℕ) → e < length all → ((f : ℕ) → f < e → ¬ Blocks w places (naming_at all f).by r)
     → Blocks w places (naming_at all e).by (entry w.proposers (naming_at all e).by (naming_at all e).place) → IsFirstBlockingWith w places r (naming_at all e)
 first_at {w} {places} {r} {all} inst named e l none h =
     let there = named.names e l in
@@ -51,19 +51,19 @@ first_at {w} {places} {r} {all} inst named e l none h =
     }
 
 -- where none of the namings of r blocks, nobody blocks with r
-pub none_at : {w : Written} {places : List (Option ℕ)} {r : ℕ} {all : List Naming} → AreNamingsOf w.proposers r all → (e : ℕ) → length all ≡ e → ((f : ℕ) → f < e → ¬ Blocks w places (naming_at all f).by r) → (q : ℕ) → ¬ Blocks w places q r
+pub none_at : {w : Written} {places : List (Option ℕ)} {r : ℕ} {all : List CompactNaming} → AreNamingsOf w.proposers r all → (e : ℕ) → length all ≡ e → ((f : ℕ) → f < e → ¬ Blocks w places (naming_at all f).by r) → (q : ℕ) → ¬ Blocks w places q r
 none_at named e whole none q = blocking_named named e (omega arith) none q (λ f ge inside. absurd (omega arith))
 
 -- the order of pairs
-sooner_true : (n m : Naming) → is_sooner n m ≡ true → (n.by < m.by) ⊎ ((n.by ≡ m.by) × (n.place < m.place))
+sooner_true : (n m : CompactNaming) → is_sooner n m ≡ true → (n.by < m.by) ⊎ ((n.by ≡ m.by) × (n.place < m.place))
 sooner_true n m h = ⊎_elim (λ l. inl l) (λ g. inr (grind (arith, nat_tests), grind (arith, nat_tests))) (cases_lt n.by m.by)
 
-sooner_false : (n m : Naming) → is_sooner n m ≡ false → (m.by < n.by) ⊎ ((m.by ≡ n.by) × (m.place ≤ n.place))
+sooner_false : (n m : CompactNaming) → is_sooner n m ≡ false → (m.by < n.by) ⊎ ((m.by ≡ n.by) × (m.place ≤ n.place))
 sooner_false n m h = ⊎_elim (λ l. inl l) (λ g. inr (grind (arith, nat_tests), grind (arith, nat_tests))) (cases_lt m.by n.by)
 
 module _ (w : Written) (places : List (Option ℕ)) (r : ℕ) where
   -- the first pair stays the first
-  keeps_first : (m : Naming) → IsFirstPairBelow w places r m → ((q : ℕ) → q < m.by → ¬ Blocks w places q r) → (place_of w.proposers m.by r < m.place → ¬ Blocks w places m.by r) → IsFirstPairBelow w places (r + 1) m
+  keeps_first : (m : CompactNaming) → IsFirstPairBelow w places r m → ((q : ℕ) → q < m.by → ¬ Blocks w places q r) → (place_of w.proposers m.by r < m.place → ¬ Blocks w places m.by r) → IsFirstPairBelow w places (r + 1) m
   keeps_first m h earlier here =
       record {
         reviewer = h.reviewer;
@@ -76,7 +76,7 @@ module _ (w : Written) (places : List (Option ℕ)) (r : ℕ) where
       }
 
   -- a pair with r is the first
-  takes_first : (n : Naming) → IsFirstBlockingWith w places r n → ((q s : ℕ) → s < r → q < n.by → ¬ Blocks w places q s) → ((s : ℕ) → s < r → place_of w.proposers n.by s < n.place → ¬ Blocks w places n.by s) → IsFirstPairBelow w places (r + 1) n
+  takes_first : (n : CompactNaming) → IsFirstBlockingWith w places r n → ((q s : ℕ) → s < r → q < n.by → ¬ Blocks w places q s) → ((s : ℕ) → s < r → place_of w.proposers n.by s < n.place → ¬ Blocks w places n.by s) → IsFirstPairBelow w places (r + 1) n
   takes_first n h earlier here =
       record {
         reviewer = r;
@@ -88,7 +88,7 @@ module _ (w : Written) (places : List (Option ℕ)) (r : ℕ) where
       }
 
   -- one more reviewer: the sooner of the pair found so far and of its own
-  pub first_more : (a b : Option Naming) → IsFirstBelow w places r a → MatchOption b ((p : ℕ) → ¬ Blocks w places p r) (λ n. IsFirstBlockingWith w places r n) → IsFirstBelow w places (r + 1) (sooner_of a b)
+  pub first_more : (a b : Option CompactNaming) → IsFirstBelow w places r a → MatchOption b ((p : ℕ) → ¬ Blocks w places p r) (λ n. IsFirstBlockingWith w places r n) → IsFirstBelow w places (r + 1) (sooner_of a b)
   first_more None None h k = λ p s l b. ⊎_elim (λ less. h p s less b) (λ ge. let same : s ≡ r = omega arith in k p (let Q : ℕ → Type 0 = λ t. Blocks w places p t in subst Q same b)) (cases_lt s r)
   first_more None (Some n) h k = takes_first n k (λ q s l lt. h q s l) (λ s l lt. h n.by s l)
   first_more (Some m) None h k = keeps_first m h (λ q lt. k q) (λ lt. k m.by)
@@ -108,7 +108,7 @@ module _ (w : Written) (places : List (Option ℕ)) (r : ℕ) where
           (sooner_false n m e))
 
 -- once all reviewers are asked, the pair that was found is the first that blocks; without one the matching is stable
-pub first_end : {w : Written} {places : List (Option ℕ)} → IsInstance w → IsMatching w places → (o : Option Naming) → IsFirstBelow w places (length w.reviewers) o
+pub first_end : {w : Written} {places : List (Option ℕ)} → IsInstance w → IsMatching w places → (o : Option CompactNaming) → IsFirstBelow w places (length w.reviewers) o
     → MatchOption o (IsStable w places) (λ n. IsFirstBlocking w places n.by (entry w.proposers n.by n.place))
 first_end {w} {places} inst matching None h = record { matching = matching; unblocked = λ p r b. h p r (reviewer_below inst b) b }
   where

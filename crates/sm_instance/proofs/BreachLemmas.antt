@@ -8,7 +8,7 @@ use Rattle.sm_instance.specs.Matching.{held, is_at, load_before, IsAssignment, I
 use Rattle.sm_instance.specs.Kept.{naming_at, AreNamingsOf, cross_place}
 use Rattle.sm_lists.specs.Earlier.{earlier_of}
 use Rattle.sm_instance.specs.Loads.{IsFirstOf, IsUnacceptable, IsOverfull, IsOverfullBelow, IsWorst}
-use Rattle.sm_instance.specs.declared.namings.Naming.{Naming}
+use Rattle.sm_lists.specs.declared.compact_naming.CompactNaming.{CompactNaming}
 use Rattle.sm_instance.proofs.ListLemmas.{row_in_range}
 use Rattle.sm_instance.proofs.AcceptLemmas.{cross_some}
 use Rattle.sm_instance.proofs.LoadLemmas.{load_before-suc_at, load_before-suc_other, load_before-suc, test_cases, place_at, at_place, IsCounted, IsWorstSoFar, load_next, counted_end, named_at}
@@ -123,7 +123,7 @@ accepted {w} p at h a u = let same : at ≡ u.at = (let e = u.holds in cc) in u.
 pub unmatched : {w : Written} {places : List (Option ℕ)} (p : ℕ) → (let none : Option ℕ = None in held places p ≡ none) → ¬ IsUnacceptable w places p
 unmatched p h u = let e = u.holds in cc
 
-module _ {w : Written} {places : List (Option ℕ)} {r : ℕ} {all : List Naming} (i : IsInstance w) (assigned : IsAssignment w places) (named : AreNamingsOf w.proposers r all) where
+module _ {w : Written} {places : List (Option ℕ)} {r : ℕ} {all : List CompactNaming} (i : IsInstance w) (assigned : IsAssignment w places) (named : AreNamingsOf w.proposers r all) where
   -- numbers that rise are no smaller than their places
   pub rising_ge : (e : ℕ) → e < length all → e ≤ (naming_at all e).by
   rising_ge zero l = omega arith
@@ -184,7 +184,7 @@ module _ {w : Written} {places : List (Option ℕ)} {r : ℕ} {all : List Naming
       }
 
 -- before any naming is asked the worst place is the first
-pub worst_start : (w : Written) (places : List (Option ℕ)) (r : ℕ) (all : List Naming) → IsWorstSoFar w places r all 0 0
+pub worst_start : (w : Written) (places : List (Option ℕ)) (r : ℕ) (all : List CompactNaming) → IsWorstSoFar w places r all 0 0
 worst_start w places r all = record { above = λ f lt. absurd (omega arith); attained = λ p lt. absurd (omega arith) }
 
 -- nobody past the last proposer holds a place

@@ -5,7 +5,6 @@ pub mod NamingLemmas
 pub mod CrossLemmas
 pub mod LoadLemmas
 pub mod ItemLemmas
-pub mod OrderLemmas
 pub mod SecondLemmas
 pub mod NonzeroLemmas
 pub mod FaultLemmas

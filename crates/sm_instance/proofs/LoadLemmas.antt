@@ -9,7 +9,7 @@ use Rattle.sm_instance.specs.Sound.{AreSoundEntries}
 use Rattle.sm_instance.specs.Matching.{held, leads_to, is_at, load_before, load, IsAssignment}
 use Rattle.sm_instance.specs.Stable.{HasWorse}
 use Rattle.sm_instance.specs.Kept.{naming_at, IsNamed, AreNamingsOf}
-use Rattle.sm_instance.specs.declared.namings.Naming.{Naming}
+use Rattle.sm_lists.specs.declared.compact_naming.CompactNaming.{CompactNaming}
 use Rattle.sm_instance.proofs.ListLemmas.{row_in_range}
 use Rattle.sm_instance.proofs.PlaceLemmas.{place_of-entry}
 
@@ -69,15 +69,15 @@ not_at w places p r i assigned sound on there other =
     (test_cases (is_at w places p r))
 
 -- so many of the first e that name r are at it: where all of these are below k, and no other is, this is the load before k
-pub record IsCounted (w : Written) (places : List (Option ℕ)) (r : ℕ) (all : List Naming) (e count : ℕ) : Type 0 where
+pub record IsCounted (w : Written) (places : List (Option ℕ)) (r : ℕ) (all : List CompactNaming) (e count : ℕ) : Type 0 where
   pub is : (k : ℕ) → ((f : ℕ) → f < e → (naming_at all f).by < k) → ((f : ℕ) → e ≤ f → f < length all → k ≤ (naming_at all f).by) → load_before w places k r ≡ count
 
 -- the greatest place, on the list of r, of the proposers at r among the first e that name it
-pub record IsWorstSoFar (w : Written) (places : List (Option ℕ)) (r : ℕ) (all : List Naming) (e worst : ℕ) : Type 0 where
+pub record IsWorstSoFar (w : Written) (places : List (Option ℕ)) (r : ℕ) (all : List CompactNaming) (e worst : ℕ) : Type 0 where
   pub above : (f : ℕ) → f < e → held places (naming_at all f).by ≡ Some (naming_at all f).place → place_of w.reviewers r (naming_at all f).by ≤ worst
   pub attained : (p : ℕ) → place_of w.reviewers r p < worst → HasWorse w places r p
 
-module _ {w : Written} {places : List (Option ℕ)} {r : ℕ} {all : List Naming} (assigned : IsAssignment w places) (sound : AreSoundEntries w.proposers (length w.reviewers)) (named : AreNamingsOf w.proposers r all) where
+module _ {w : Written} {places : List (Option ℕ)} {r : ℕ} {all : List CompactNaming} (assigned : IsAssignment w places) (sound : AreSoundEntries w.proposers (length w.reviewers)) (named : AreNamingsOf w.proposers r all) where
   -- whoever is at r names it
   pub named_at : (q : ℕ) → is_at w places q r ≡ true → (i : ℕ) × (held places q ≡ Some i) × IsNamed all q i
   named_at q at =

@@ -15,7 +15,9 @@ use Rattle.sm_instance.specs.Written.{Written, weighed, is_same_pair, weight_num
 use Rattle.sm_instance.specs.Sound.{IsPairOf, IsInstance}
 use Rattle.sm_instance.specs.Faults.{IsSecondOf, IsSoundSecond, IsSecondFault}
 use Rattle.sm_instance.specs.Kept.{IsKept}
-use Rattle.sm_instance.specs.declared.namings.Naming.{Naming}
+use Rattle.sm_lists.specs.declared.compact_naming.CompactNaming.{CompactNaming}
+use Rattle.sm_instance.specs.declared.names.NameTables.{NameTables}
+use Rattle.sm_instance.specs.declared.crosses.Crosses.{Crosses}
 use Rattle.sm_instance.specs.Checks.{IsGivenBefore, AreGiven, IsGivenFault}
 use Rattle.sm_instance.specs.declared.faults.InstanceFault.{InstanceFault}
 use Rattle.sm_instance.specs.declared.faults.InstanceFault.TheVariants.{TooMany, BadAgent, BadEntry, BadPair, BadOrder, OutOfMemory}
@@ -180,15 +182,13 @@ with_seconds i seconds each small = record {
 }
 
 -- what is kept beside an instance stays with other second weights
-pub kept_with_seconds : {w : Written} {crosses reviewer_crosses : List (List (Option ℕ))} {namings : List (List Naming)} {left right : List (List ℕ)} {pairs : List (ℕ × ℕ)} → IsKept w crosses reviewer_crosses namings left right pairs
-    → (seconds : List ℤ) → length seconds ≡ length w.weights → All (λ s. unsigned_abs s ≤ most_weight) seconds → IsKept (record w { seconds = seconds }) crosses reviewer_crosses namings left right pairs
+pub kept_with_seconds : {w : Written} {namings : List (List CompactNaming)} {pairs : List (ℕ × ℕ)} {crosses : Option Crosses} {names : Option NameTables} → IsKept w namings pairs crosses names
+    → (seconds : List ℤ) → length seconds ≡ length w.weights → All (λ s. unsigned_abs s ≤ most_weight) seconds → IsKept (record w { seconds = seconds }) namings pairs crosses names
 kept_with_seconds k seconds each small = record {
   instance = with_seconds k.instance seconds each small;
   few = k.few;
-  crossed = k.crossed;
-  crossed_back = k.crossed_back;
   named = k.named;
-  lefts = k.lefts;
-  rights = k.rights;
   weighed_pairs = k.weighed_pairs;
+  crossed = k.crossed;
+  tables = k.tables;
 }

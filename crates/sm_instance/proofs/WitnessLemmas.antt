@@ -9,7 +9,7 @@ use Rattle.sm_instance.specs.Written.{agent_at, row, entry, place_of, capacity_o
 use Rattle.sm_instance.specs.Matching.{held, is_at, load, IsMatching}
 use Rattle.sm_instance.specs.Stable.{HasWorse, Blocks}
 use Rattle.sm_instance.specs.Sound.{IsSoundAgent, IsSoundEntry}
-use Rattle.sm_instance.proofs.OrderLemmas.{apart_each_once}
+use Rattle.sm_lists.proofs.OrderLemmas.{apart_each_once}
 use Rattle.sm_instance.specs.Witnesses.{small_hospitals, settled, left_over, passed_over, persons, NobodyBlocks, FreePlaceBlocks, WorseResidentBlocks, NoMatchings, InertEntryCounts, SecondsCount, OrdersHaveEach, OwnName}
 
 -- what holds of the place that three proposers hold, where they hold one

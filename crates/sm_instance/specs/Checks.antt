@@ -1,5 +1,5 @@
 -- What the checks of one side, and of one list of pairs, find.
-use Rattle.std.specs.Prelude.{◌≡◌, ◌≢◌, ℕ, ◌+◌, ◌<◌, Bool, true, false, List, Option, Some, None, length, map, slice_index, slice_index_or, ℤ, pos}
+use Rattle.std.specs.Prelude.{◌≡◌, ℕ, ◌+◌, ◌<◌, Bool, true, List, Option, Some, None, length, map, slice_index, slice_index_or, ℤ, pos}
 use Rattle.sm_instance.specs.Written.{AgentData, row, entry, weighed}
 use Rattle.sm_instance.specs.Sound.{IsSoundEntry, AreSoundEntries, AreSoundAgents, IsPairOf}
 use Rattle.sm_lists.specs.Pairs.{pair_at}
@@ -80,22 +80,6 @@ AreEntriesFaulty left right (BadEntry Reviewers a i) = AreSoundEntries left (len
 AreEntriesFaulty left right (BadPair n) = ⊥
 AreEntriesFaulty left right BadOrder = ⊥
 AreEntriesFaulty left right OutOfMemory = Unit {0}
-
--- p stands among the first n of an order
-pub record IsNamedBefore (order : List ℕ) (n p : ℕ) : Type 0 where
-  pub at : ℕ
-  pub before : at < n
-  pub names : slice_index order at ≡ p
-
--- the marks of those whom an order names at its first n places, and of nobody else
-pub record AreMarked (order : List ℕ) (n : ℕ) (met : List Bool) : Type 0 where
-  pub named : (p : ℕ) → slice_index_or met p false ≡ true → IsNamedBefore order n p
-  pub all : (j : ℕ) → j < n → slice_index_or met (slice_index order j) false ≡ true
-
--- the first n of an order are below the count and differ
-pub record AreApart (order : List ℕ) (count n : ℕ) : Type 0 where
-  pub in_range : (j : ℕ) → j < n → slice_index order j < count
-  pub once : (i j : ℕ) → i < j → j < n → slice_index order i ≢ slice_index order j
 
 -- one of the first n second weights is given to a pair, and is this one
 pub record IsGivenBefore (seconds : List (ℕ × ℕ × ℤ)) (n : ℕ) (pair : ℕ × ℕ) (second : ℤ) : Type 0 where

@@ -1,7 +1,11 @@
 -- Cross places: where each agent stands on the lists of those whom it names.
-use Rattle.std.specs.Prelude.{◌≡◌, ℕ, ◌<◌, List, [], Option, None, length, slice_index_or}
+use Rattle.std.specs.Prelude.{◌≡◌, ℕ, ◌<◌, List, [], Option, None, length, slice_index_or, IfSome}
 use Rattle.sm_lists.specs.Crosses.{found_on}
-use Rattle.sm_instance.specs.Written.{AgentData, row, entry}
+use Rattle.sm_instance.specs.Written.{AgentData, Written, row, entry}
+use Rattle.sm_instance.specs.Sound.{IsInstance}
+use Rattle.sm_instance.specs.declared.crosses.Crosses.{Crosses}
+use Rattle.sm_instance.specs.declared.crosses.LentCrosses.{LentCrosses}
+use Rattle.sm_instance.specs.declared.crosses.LentCrosses.TheVariants.{Kept, Made}
 
 -- the place of b on a's list, None where b isn't on it
 abbrev pub cross_place : List AgentData → ℕ → ℕ → Option ℕ
@@ -16,3 +20,18 @@ pub record AreCrossPlacesOf (agents others : List AgentData) (a : ℕ) (crosses 
 pub record AreCrossPlaces (agents others : List AgentData) (crosses : List (List (Option ℕ))) : Type 0 where
   pub one_each : length crosses ≡ length agents
   pub of : (a : ℕ) → a < length agents → AreCrossPlacesOf agents others a (slice_index_or crosses a [])
+
+-- the same for both sides
+pub record AreCrossesOf (proposers reviewers : List AgentData) (crosses : Crosses) : Type 0 where
+  pub there : AreCrossPlaces proposers reviewers crosses.proposers
+  pub back : AreCrossPlaces reviewers proposers crosses.reviewers
+
+-- cross places that are lent, or were made
+abbrev pub crosses_lent : LentCrosses → Crosses
+crosses_lent (Kept crosses) = crosses.now
+crosses_lent (Made crosses) = crosses
+
+-- what a search for cross places of an instance knows: that it is one, and its cross places once they are lent or made
+pub record IsCrossSearch (w : Written) (made : Option LentCrosses) : Type 0 where
+  pub instance : IsInstance w
+  pub made_crosses : IfSome made (λ c. AreCrossesOf w.proposers w.reviewers (crosses_lent c))

@@ -4,7 +4,8 @@ use Rattle.std.specs.Int.RustNames.{unsigned_abs}
 use Rattle.sm_lists.specs.Pairs.{pair_at}
 use Rattle.sm_text.specs.Limits.{most_weight}
 use Rattle.sm_instance.specs.Written.{AgentData, Written, row, weighed}
-use Rattle.sm_instance.specs.Sound.{IsWithinLimits, IsSoundAgent, AreSoundAgents, IsSoundEntry, AreSoundEntries, items_of, IsSoundItem, IsPairOf, IsEachOnce, is_single}
+use Rattle.sm_instance.specs.Sound.{IsWithinLimits, IsSoundAgent, AreSoundAgents, IsSoundEntry, AreSoundEntries, items_of, IsSoundItem, IsPairOf, is_single}
+use Rattle.sm_lists.specs.EachOnce.{IsEachOnce}
 use Rattle.sm_instance.specs.declared.kinds.Side.{Side}
 use Rattle.sm_instance.specs.declared.kinds.Side.TheVariants.{Proposers, Reviewers}
 use Rattle.sm_instance.specs.declared.faults.InstanceFault.{InstanceFault}

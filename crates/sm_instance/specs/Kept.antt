@@ -1,48 +1,39 @@
 -- What is kept beside an instance, so that the calls on it take no memory.
-use Rattle.std.specs.Prelude.{◌≡◌, ℕ, ◌+◌, ◌<◌, ◌^◌, List, [], length, map, slice_index_or, Option}
+use Rattle.std.specs.Prelude.{◌≡◌, ℕ, ◌+◌, ◌<◌, ◌^◌, List, [], length, map, slice_index_or, Option, IfSome}
 use Rattle.sm_instance.specs.Written.{AgentData, Written, row, entry, names_of, weighed}
 use Rattle.sm_instance.specs.Sound.{IsInstance, ArePersons}
-use Rattle.sm_instance.specs.declared.namings.Naming.{Naming}
-pub use Rattle.sm_instance.specs.Crosses.{cross_place, AreCrossPlacesOf, AreCrossPlaces}
-
--- what stands for a naming past the last
-abbrev pub no_naming : Naming
-no_naming = record { by = 0; place = 0 }
-
--- the naming with number e
-abbrev pub naming_at : List Naming → ℕ → Naming
-naming_at namings e = slice_index_or namings e no_naming
-
--- among these namings is the one by p at place i
-pub record IsNamed (namings : List Naming) (p i : ℕ) : Type 0 where
-  pub at : ℕ
-  pub there : at < length namings
-  pub by : (naming_at namings at).by ≡ p
-  pub place : (naming_at namings at).place ≡ i
+use Rattle.sm_lists.specs.declared.compact_naming.CompactNaming.{CompactNaming}
+pub use Rattle.sm_lists.specs.CompactNamings.{no_naming, naming_at, IsNamed}
+use Rattle.sm_instance.specs.declared.names.NameTables.{NameTables}
+use Rattle.sm_instance.specs.declared.crosses.Crosses.{Crosses}
+pub use Rattle.sm_instance.specs.Crosses.{cross_place, AreCrossPlacesOf, AreCrossPlaces, AreCrossesOf}
 
 -- who names r, by rising number and with the place
-pub record AreNamingsOf (agents : List AgentData) (r : ℕ) (namings : List Naming) : Type 0 where
+pub record AreNamingsOf (agents : List AgentData) (r : ℕ) (namings : List CompactNaming) : Type 0 where
   pub on_list : (e : ℕ) → e < length namings → (naming_at namings e).place < length (row agents (naming_at namings e).by)
   pub names : (e : ℕ) → e < length namings → entry agents (naming_at namings e).by (naming_at namings e).place ≡ r
   pub rising : (e f : ℕ) → e < f → f < length namings → (naming_at namings e).by < (naming_at namings f).by
   pub named : (p i : ℕ) → i < length (row agents p) → entry agents p i ≡ r → IsNamed namings p i
 
 -- the same for each agent of the other side
-pub record AreNamings (agents : List AgentData) (others : ℕ) (namings : List (List Naming)) : Type 0 where
+pub record AreNamings (agents : List AgentData) (others : ℕ) (namings : List (List CompactNaming)) : Type 0 where
   pub one_each : length namings ≡ others
   pub of : (r : ℕ) → r < others → AreNamingsOf agents r (slice_index_or namings r [])
 
--- what is kept beside an instance: the cross places of both sides, who names each reviewer, the names of both sides and the pairs with
--- a weight
-pub record IsKept (w : Written) (crosses reviewer_crosses : List (List (Option ℕ))) (namings : List (List Naming)) (left right : List (List ℕ)) (pairs : List (ℕ × ℕ)) : Type 0 where
+-- the names of both sides
+pub record AreNamesOf (proposers reviewers : List AgentData) (names : NameTables) : Type 0 where
+  pub lefts : names.proposers ≡ names_of proposers
+  pub rights : names.reviewers ≡ names_of reviewers
+
+-- what is kept beside an instance: who names each reviewer, and the pairs with a weight; and on demand the cross places and the names
+-- of both sides
+pub record IsKept (w : Written) (namings : List (List CompactNaming)) (pairs : List (ℕ × ℕ)) (crosses : Option Crosses) (names : Option NameTables) : Type 0 where
   pub instance : IsInstance w
   pub few : length w.weights + length w.forced + length w.forbidden < 2 ^ 24
-  pub crossed : AreCrossPlaces w.proposers w.reviewers crosses
-  pub crossed_back : AreCrossPlaces w.reviewers w.proposers reviewer_crosses
   pub named : AreNamings w.proposers (length w.reviewers) namings
-  pub lefts : left ≡ names_of w.proposers
-  pub rights : right ≡ names_of w.reviewers
   pub weighed_pairs : pairs ≡ map weighed w.weights
+  pub crossed : IfSome crosses (AreCrossesOf w.proposers w.reviewers)
+  pub tables : IfSome names (AreNamesOf w.proposers w.reviewers)
 
 -- what is kept beside persons: their names
 pub record ArePersonsKept (persons : List AgentData) (names : List (List ℕ)) : Type 0 where

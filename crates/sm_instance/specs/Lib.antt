@@ -7,7 +7,6 @@ pub mod Lightest
 pub mod Sound
 pub mod Faults
 pub mod Checks
-pub mod Places
 pub mod Vectors
 pub mod Crosses
 pub mod Kept

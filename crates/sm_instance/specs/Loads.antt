@@ -3,7 +3,7 @@ use Rattle.std.specs.Prelude.{◌≡◌, ℕ, ◌<◌, ◌≤◌, ◌||◌, ◌&
 use Rattle.sm_instance.specs.Written.{Written, entry, place_of, capacity_of, IsAcceptable}
 use Rattle.sm_instance.specs.Matching.{held, load_before}
 use Rattle.sm_instance.specs.Stable.{HasWorse, Blocks}
-use Rattle.sm_instance.specs.declared.namings.Naming.{Naming}
+use Rattle.sm_lists.specs.declared.compact_naming.CompactNaming.{CompactNaming}
 
 -- the first number of which P holds, if it holds of any
 abbrev pub IsFirstOf : (ℕ → Type 0) → Option ℕ → Type 0
@@ -35,13 +35,13 @@ pub record IsWorst (w : Written) (places : List (Option ℕ)) (r worst : ℕ) : 
   pub attained : (p : ℕ) → place_of w.reviewers r p < worst → HasWorse w places r p
 
 -- the first proposer that blocks with r, with the place of r on its list
-pub record IsFirstBlockingWith (w : Written) (places : List (Option ℕ)) (r : ℕ) (n : Naming) : Type 0 where
+pub record IsFirstBlockingWith (w : Written) (places : List (Option ℕ)) (r : ℕ) (n : CompactNaming) : Type 0 where
   pub blocks : Blocks w places n.by r
   pub at : n.place ≡ place_of w.proposers n.by r
   pub earlier : (q : ℕ) → q < n.by → ¬ Blocks w places q r
 
 -- the first pair that blocks of those with a reviewer below k
-pub record IsFirstPairBelow (w : Written) (places : List (Option ℕ)) (k : ℕ) (n : Naming) : Type 0 where
+pub record IsFirstPairBelow (w : Written) (places : List (Option ℕ)) (k : ℕ) (n : CompactNaming) : Type 0 where
   pub reviewer : ℕ
   pub below : reviewer < k
   pub blocks : Blocks w places n.by reviewer
@@ -50,16 +50,16 @@ pub record IsFirstPairBelow (w : Written) (places : List (Option ℕ)) (k : ℕ)
   pub earlier_places : (s : ℕ) → s < k → place_of w.proposers n.by s < n.place → ¬ Blocks w places n.by s
 
 -- the first pair that blocks with a reviewer below k, if there is one
-abbrev pub IsFirstBelow : Written → List (Option ℕ) → ℕ → Option Naming → Type 0
+abbrev pub IsFirstBelow : Written → List (Option ℕ) → ℕ → Option CompactNaming → Type 0
 IsFirstBelow w places k None = (p s : ℕ) → s < k → ¬ Blocks w places p s
 IsFirstBelow w places k (Some n) = IsFirstPairBelow w places k n
 
 -- the sooner of two pairs, by proposer and then by place
-abbrev pub is_sooner : Naming → Naming → Bool
+abbrev pub is_sooner : CompactNaming → CompactNaming → Bool
 is_sooner m n = nat_lt m.by n.by || m.by == n.by && nat_lt m.place n.place
 
 -- the sooner of two pairs, where either may be missing
-abbrev pub sooner_of : Option Naming → Option Naming → Option Naming
+abbrev pub sooner_of : Option CompactNaming → Option CompactNaming → Option CompactNaming
 sooner_of None b = b
 sooner_of (Some m) None = Some m
 sooner_of (Some m) (Some n) = if is_sooner n m then Some n else Some m

@@ -1,8 +1,9 @@
 -- What an instance has to meet: its limits, its agents, its entries and its pairs.
-use Rattle.std.specs.Prelude.{◌≡◌, ◌≢◌, ℕ, ◌+◌, ◌<◌, ◌≤◌, Bool, true, false, IsTrue, List, [], length, map, ◌++◌, slice_index, slice_index_or, ℤ, pos}
+use Rattle.std.specs.Prelude.{◌≡◌, ◌≢◌, ℕ, ◌+◌, ◌<◌, ◌≤◌, Bool, true, false, IsTrue, List, [], length, map, ◌++◌, slice_index_or, ℤ, pos}
 use Rattle.std.specs.List.{sum_by, All}
 use Rattle.std.specs.Int.RustNames.{unsigned_abs}
 use Rattle.sm_lists.specs.Pairs.{pair_at}
+use Rattle.sm_lists.specs.EachOnce.{IsEachOnce}
 use Rattle.sm_text.specs.Limits.{most_agents, most_entries, most_capacity, most_weight}
 use Rattle.sm_text.specs.Name.{is_name}
 use Rattle.sm_instance.specs.Written.{AgentData, Written, agent_at, row, entry, weighed}
@@ -54,12 +55,6 @@ pub record IsSoundItem (proposers reviewers : ℕ) (weights : List (ℕ × ℕ �
   pub pair : IsPairOf proposers reviewers (pair_at items n)
   pub size : n < length weights → unsigned_abs (slice_index_or weights n (0, 0, pos 0)).2 ≤ most_weight
   pub fresh : n < length weights → (k : ℕ) → k < n → pair_at items k ≢ pair_at items n
-
--- an order has each of so many numbers once
-pub record IsEachOnce (count : ℕ) (order : List ℕ) : Type 0 where
-  pub in_range : (j : ℕ) → j < length order → slice_index order j < count
-  pub once : (i j : ℕ) → i < j → j < length order → slice_index order i ≢ slice_index order j
-  pub each : (p : ℕ) → p < count → (j : ℕ) × (j < length order) × (slice_index order j ≡ p)
 
 -- whether every reviewer has a single place
 abbrev pub is_single : Kind → Bool

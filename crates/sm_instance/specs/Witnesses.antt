@@ -5,7 +5,8 @@ use Rattle.sm_instance.specs.Matching.{load, IsMatching}
 use Rattle.sm_instance.specs.Stable.{Blocks, IsStable}
 use Rattle.sm_instance.specs.Ranks.{rank_vector_of, regret_of, weight_of, second_weight_of}
 use Rattle.sm_instance.specs.Allowed.{IsAllowed}
-use Rattle.sm_instance.specs.Sound.{IsEachOnce, ArePersons}
+use Rattle.sm_instance.specs.Sound.{ArePersons}
+use Rattle.sm_lists.specs.EachOnce.{IsEachOnce}
 use Rattle.sm_instance.specs.declared.kinds.Kind.TheVariants.{Marriage, Hospitals}
 use Rattle.sm_instance.specs.declared.kinds.Measure.TheVariants.{Ranks, Given}
 

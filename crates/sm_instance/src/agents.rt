@@ -1,7 +1,9 @@
 //! Agents and assignments, and agents of a side by number.
 
-ghost use Rattle.std.specs.Prelude.{◌≡◌, ◌<◌, length};
+ghost use Rattle.std.specs.Prelude.{◌≡◌, ◌<◌, ◌≤◌, length};
+ghost use Rattle.sm_text.specs.Limits.{most_entries};
 ghost use Rattle.sm_instance.specs.Written.{agent_at, row, capacity_of};
+ghost use Rattle.sm_instance.specs.Sound.{entries_of};
 ghost use Rattle.sm_instance.specs.Vectors.{agents_of};
 
 /// A declared agent: its name, how many partners it may have, the line of its declaration, which is 0 where it was made
@@ -42,4 +44,16 @@ pub(crate) fn capacity_at(agents: &[Agent], a: u32) -> u32
     ensures { result ≡ capacity_of (agents_of agents.now) a }
 {
     agents[a as usize].capacity
+}
+
+/// How many entries the lists of these agents have together.
+pub(crate) fn count_entries(agents: &[Agent]) -> usize
+    requires { entries_of (agents_of agents.now) ≤ most_entries }
+    ensures { result ≡ entries_of (agents_of agents.now) }
+{
+    let mut count = 0;
+    for agent in agents {
+        count += agent.entries.len();
+    }
+    count
 }

@@ -8,7 +8,7 @@ ghost use Rattle.sm_instance.specs.Loads.{IsFirstBlockingWith, sooner_of};
 
 use crate::agents::Assignment;
 use crate::instance::Instance;
-use crate::namings::Naming;
+use sm_lists::CompactNaming;
 
 impl Instance {
     /// Whether a proposer and a reviewer block a matching: they are acceptable to each other, the proposer would rather
@@ -54,7 +54,7 @@ impl Instance {
             (IsStable self.now a.now.places.items)
             (λ b. IsFirstBlocking self.now a.now.places.items b.0 b.1) }
     {
-        let mut first: Option<Naming> = None;
+        let mut first: Option<CompactNaming> = None;
         for r in 0..self.reviewer_count() {
             first = sooner(first, self.first_blocking_at(a, r));
         }
@@ -68,7 +68,7 @@ impl Instance {
     }
 
     /// The first proposer that blocks with a reviewer.
-    fn first_blocking_at(&self, a: &Assignment, r: u32) -> Option<Naming>
+    fn first_blocking_at(&self, a: &Assignment, r: u32) -> Option<CompactNaming>
         requires matching { IsMatching self.now a.now.places.items }
         requires reviewer { r < length self.now.reviewers }
         ensures { MatchOption result
@@ -88,7 +88,7 @@ impl Instance {
 }
 
 /// The sooner of two pairs, by proposer and then by place.
-fn sooner(a: Option<Naming>, b: Option<Naming>) -> Option<Naming>
+fn sooner(a: Option<CompactNaming>, b: Option<CompactNaming>) -> Option<CompactNaming>
     ensures { result ≡ sooner_of a b }
 {
     match (a, b) {

@@ -1,43 +1,126 @@
 //! Where each agent stands on the lists of those whom it names, and who names each reviewer.
 
-ghost use Rattle.std.specs.Prelude.{◌≡◌, length, IfOk};
+ghost use Rattle.std.specs.Prelude.{◌≡◌, ◌<◌, [], length, slice_index_or, IfOk};
 ghost use Rattle.sm_lists.specs.Rows.{lists_in};
 ghost use Rattle.sm_instance.specs.Sound.{IsWithinLimits, AreSoundEntries};
 ghost use Rattle.sm_instance.specs.Written.{lists_of};
-ghost use Rattle.sm_instance.specs.Crosses.{AreCrossPlaces};
+ghost use Rattle.sm_instance.specs.Crosses.{AreCrossesOf, crosses_lent};
 ghost use Rattle.sm_instance.specs.Kept.{AreNamings};
 ghost use Rattle.sm_instance.specs.Vectors.{agents_of};
 
 use crate::agents::Agent;
-use crate::cross::Cross;
-use crate::namings::Naming;
-use sm_lists::{CrossPlaces, cross_places};
+use sm_lists::{CompactNaming, Cross, CrossPlaces, Packed, cross_places, namings};
 use std::alloc::{AllocError, Global};
 
-/// The cross places of the proposers' and of the reviewers' lists, and who names each reviewer.
-pub(crate) fn crossings(
+/// For each place of each list of an instance, the place of the list's owner on the list of the agent there; none where it isn't
+/// on it, so that the entry is inert.
+#[derive(Drop)]
+pub struct Crosses {
+    proposers: Packed<Cross>,
+    reviewers: Packed<Cross>,
+}
+
+impl Crosses {
+    /// Those of a proposer's list. Takes constant time.
+    pub fn of_proposer(&self, p: u32) -> &[Cross]
+        requires { p < length self.now.proposers }
+        ensures { result.now ≡ slice_index_or self.now.proposers p [] }
+    {
+        self.proposers.at(p)
+    }
+
+    /// Those of a reviewer's list. Takes constant time.
+    pub fn of_reviewer(&self, r: u32) -> &[Cross]
+        requires { r < length self.now.reviewers }
+        ensures { result.now ≡ slice_index_or self.now.reviewers r [] }
+    {
+        self.reviewers.at(r)
+    }
+}
+
+/// The cross places of an instance, kept by it or made.
+#[derive(Drop)]
+pub enum LentCrosses<'a> {
+    Kept(&'a Crosses),
+    Made(Crosses),
+}
+
+impl<'a> LentCrosses<'a> {
+    /// The cross places. Takes constant time.
+    pub fn get(&self) -> &Crosses
+        ensures { result.now ≡ crosses_lent self.now }
+    {
+        match self {
+            LentCrosses::Kept(crosses) => crosses,
+            LentCrosses::Made(crosses) => crosses,
+        }
+    }
+}
+
+/// Who names each reviewer.
+pub(crate) fn find_namings(
     alloc: Global,
     proposers: &[Agent],
     reviewers: &[Agent],
-) -> Result<CrossPlaces<Cross, Naming>, AllocError>
+) -> Result<Packed<CompactNaming>, AllocError>
     requires limits { IsWithinLimits (agents_of proposers.now) (agents_of reviewers.now) }
     requires proposers { AreSoundEntries (agents_of proposers.now)
         (length (agents_of reviewers.now)) }
     requires reviewers { AreSoundEntries (agents_of reviewers.now)
         (length (agents_of proposers.now)) }
-    ensures proposers { IfOk result
-        (λ c. AreCrossPlaces (agents_of proposers.now) (agents_of reviewers.now)
-        c.rows) }
-    ensures reviewers { IfOk result
-        (λ c. AreCrossPlaces (agents_of reviewers.now) (agents_of proposers.now)
-        c.others) }
-    ensures namings { IfOk result (λ c. AreNamings (agents_of proposers.now)
-        (length (agents_of reviewers.now)) c.namings) }
+    ensures { IfOk result (λ n. AreNamings (agents_of proposers.now)
+        (length (agents_of reviewers.now)) n) }
 {
     let proposers = lists(alloc, proposers)?;
     let reviewers = lists(alloc, reviewers)?;
-    let found = cross_places(alloc, &proposers, &reviewers)?;
+    let found = namings(alloc, &proposers, &reviewers)?;
     Ok(found)
+}
+
+/// The cross places of both sides' lists, by who names each reviewer.
+pub(crate) fn find_crosses(
+    alloc: Global,
+    proposers: &[Agent],
+    reviewers: &[Agent],
+    namings: &Packed<CompactNaming>,
+) -> Result<Crosses, AllocError>
+    requires limits { IsWithinLimits (agents_of proposers.now) (agents_of reviewers.now) }
+    requires proposers { AreSoundEntries (agents_of proposers.now)
+        (length (agents_of reviewers.now)) }
+    requires reviewers { AreSoundEntries (agents_of reviewers.now)
+        (length (agents_of proposers.now)) }
+    requires namings { AreNamings (agents_of proposers.now) (length (agents_of reviewers.now))
+        namings.now }
+    ensures { IfOk result (λ c. AreCrossesOf (agents_of proposers.now) (agents_of reviewers.now) c) }
+{
+    let proposers = lists(alloc, proposers)?;
+    let reviewers = lists(alloc, reviewers)?;
+    let CrossPlaces { rows, others } = cross_places(alloc, &proposers, &reviewers, namings)?;
+    Ok(Crosses {
+        proposers: rows,
+        reviewers: others,
+    })
+}
+
+/// Who names each reviewer, and the cross places of both sides' lists.
+pub(crate) fn namings_and_crosses(
+    alloc: Global,
+    proposers: &[Agent],
+    reviewers: &[Agent],
+) -> Result<(Packed<CompactNaming>, Crosses), AllocError>
+    requires limits { IsWithinLimits (agents_of proposers.now) (agents_of reviewers.now) }
+    requires proposers { AreSoundEntries (agents_of proposers.now)
+        (length (agents_of reviewers.now)) }
+    requires reviewers { AreSoundEntries (agents_of reviewers.now)
+        (length (agents_of proposers.now)) }
+    ensures namings { IfOk result (λ found. AreNamings (agents_of proposers.now)
+        (length (agents_of reviewers.now)) found.0) }
+    ensures crosses { IfOk result
+        (λ found. AreCrossesOf (agents_of proposers.now) (agents_of reviewers.now) found.1) }
+{
+    let namings = find_namings(alloc, proposers, reviewers)?;
+    let crosses = find_crosses(alloc, proposers, reviewers, &namings)?;
+    Ok((namings, crosses))
 }
 
 /// The agents' lists, lent one by one.

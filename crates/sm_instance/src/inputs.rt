@@ -4,6 +4,7 @@ use crate::agents::name_at;
 use crate::instance::Instance;
 use crate::kinds::Kind;
 use crate::persons::Persons;
+use std::alloc::AllocError;
 
 /// An instance with two sides, or one of roommates.
 #[derive(Drop)]
@@ -26,6 +27,35 @@ impl Input {
         match self {
             Input::Two(instance) => instance.kind(),
             Input::Room(persons) => persons.kind(),
+        }
+    }
+
+    /// Keeps cross places from now on, as [`Instance::keep_crosses`] does. Does nothing for roommates.
+    ///
+    /// # Errors
+    ///
+    /// `AllocError` where memory ran out, and only then. The input is then as it was.
+    pub fn keep_crosses(&mut self) -> Result<(), AllocError>
+        ensures { self.new ≡ self.old }
+    {
+        match self {
+            Input::Two(instance) => instance.keep_crosses(),
+            Input::Room(_) => Ok(()),
+        }
+    }
+
+    /// Keeps tables of names from now on, as [`Instance::keep_names`] does. Does nothing for roommates, whose names are always
+    /// kept.
+    ///
+    /// # Errors
+    ///
+    /// `AllocError` where memory ran out, and only then. The input is then as it was.
+    pub fn keep_names(&mut self) -> Result<(), AllocError>
+        ensures { self.new ≡ self.old }
+    {
+        match self {
+            Input::Two(instance) => instance.keep_names(),
+            Input::Room(_) => Ok(()),
         }
     }
 

@@ -7,34 +7,32 @@ ghost use Rattle.sm_text.specs.Limits.{most_agents, most_capacity, most_weight};
 ghost use Rattle.sm_instance.specs.Written.{row, entry, names_of, capacity_of, IsAcceptable, given_weight, second_weight, seconds_among, weighed as weighed_pair};
 ghost use Rattle.sm_instance.specs.Vectors.{agents_of, written_from, written_in};
 ghost use Rattle.sm_instance.specs.Ranks.{HasSeconds};
-ghost use Rattle.sm_instance.specs.Sound.{IsInstance, IsEachOnce};
-ghost use Rattle.sm_instance.specs.Crosses.{cross_place, AreCrossPlacesOf};
-ghost use Rattle.sm_instance.specs.Kept.{AreNamingsOf};
+ghost use Rattle.sm_instance.specs.Sound.{IsInstance};
+ghost use Rattle.sm_lists.specs.EachOnce.{IsEachOnce};
+ghost use Rattle.sm_instance.specs.Crosses.{cross_place, AreCrossesOf, crosses_lent};
+ghost use Rattle.sm_instance.specs.Kept.{AreNamingsOf, AreNamesOf, IsKept};
 
 use crate::agents::{Agent, capacity_at, list_at};
 use crate::checks::{are_within_limits, checked};
-use crate::cross::Cross;
-use crate::crosses::crossings;
+use crate::crosses::{Crosses, LentCrosses, find_crosses, find_namings, namings_and_crosses};
 use crate::faults::InstanceFault;
 use crate::kinds::Kind;
-use crate::names::names_for;
-use crate::namings::{Naming, place_by};
-use crate::order::is_each_once;
+use crate::names::{NameTables, find_named, name_tables};
 use crate::pairs::Pairs;
 use crate::parts::Parts;
 use crate::seconds::{checked_seconds, has_nonzero, set_seconds};
-use sm_lists::{CrossPlaces, KeptPlace, Packed};
-use sm_names::Names;
+use sm_lists::{CompactNaming, Packed, first_place, is_each_once, place_by};
 use sm_text::TextHash;
 use std::alloc::{AllocError, Global};
 use std::marker::Model;
 
 /// An instance with two sides: a marriage, or hospitals and residents.
 ///
-/// Beside what is written it keeps for each place of a list the place of the list's owner on the other list, and for
-/// each reviewer who names it, so that no later call searches lists, and only [`Instance::reorder`] and
-/// [`Instance::add_seconds`] take memory. It takes memory in proportion to the agents, the entries and the weights, and none
-/// for each pair of agents.
+/// Beside what is written it keeps for each reviewer who names it. From [`Instance::keep_crosses`] on it also keeps for each place
+/// of a list the place of the list's owner on the other list, and from [`Instance::keep_names`] on tables of the names, so that
+/// no later call searches lists or agents. [`Instance::build`] keeps both from the start. The times that calls say are those of an
+/// instance that keeps both; without cross places each look at one takes time in the length of a list. It takes memory in
+/// proportion to the agents, the entries and the weights, and none for each pair of agents.
 #[derive(Drop)]
 pub struct Instance {
     kind: Kind,
@@ -45,12 +43,10 @@ pub struct Instance {
     forbidden: Vec<(u32, u32)>,
     seconds: Vec<i64>,
     order: Vec<u32>,
-    crosses: Packed<Cross>,
-    reviewer_crosses: Packed<Cross>,
-    namings: Packed<Naming>,
-    left: Names,
-    right: Names,
+    namings: Packed<CompactNaming>,
     weighed: Pairs,
+    crosses: Option<Crosses>,
+    names: Option<NameTables>,
 }
 
 impl Model for Instance {
@@ -66,7 +62,7 @@ impl Model for Instance {
     ghost invariant = { λ i. IsKept
         (written_with i.kind i.proposers.items i.reviewers.items i.weights.items i.forced.items
         i.forbidden.items i.seconds.items i.order.items)
-        i.crosses i.reviewer_crosses i.namings i.left i.right i.weighed };
+        i.namings i.weighed i.crosses i.names };
 }
 
 impl Instance {
@@ -109,13 +105,22 @@ impl Instance {
         let parts = Parts::plain(
             alloc, kind, proposers, reviewers, weights, forced, forbidden,
         )?;
-        let (left, right, weighed) = checked(alloc, &parts)?;
-        Ok(of_parts(alloc, parts, left, right, weighed)?)
+        let (proposers, reviewers, weighed) = checked(alloc, &parts)?;
+        Ok(of_checked(
+            alloc,
+            parts,
+            NameTables {
+                proposers,
+                reviewers,
+            },
+            weighed,
+        )?)
     }
 
-    /// An instance of parts that are known to make one. Nothing is tried. Names and pairs will be found by these hashes,
-    /// which shouldn't be known to whoever chose the names. Takes time and memory in proportion to the agents, the entries
-    /// and the items.
+    /// An instance of parts that are known to make one. Nothing is tried. Pairs, and names where
+    /// they are kept, will be found by these hashes, which shouldn't be known to whoever chose them. Neither cross places nor
+    /// names are kept: see [`Instance::keep_crosses`] and [`Instance::keep_names`]. Takes time and memory in proportion to the
+    /// agents, the entries and the items.
     ///
     /// # Errors
     ///
@@ -126,10 +131,9 @@ impl Instance {
             + length parts.forbidden.items < 2 ^ 24 }
         ensures { IfOk result (λ i. i ≡ written_in parts) }
     {
-        let left = names_for(alloc, hash, &parts.proposers)?;
-        let right = names_for(alloc, hash, &parts.reviewers)?;
         let weighed = Pairs::of(alloc, hash, &parts.weights)?;
-        of_parts(alloc, parts, left, right, weighed)
+        let namings = find_namings(alloc, &parts.proposers, &parts.reviewers)?;
+        Ok(of_parts(parts, namings, weighed, None, None))
     }
 
     /// The kind, which is a marriage or hospitals.
@@ -299,6 +303,16 @@ impl Instance {
         list_at(&self.proposers, p)[place as usize]
     }
 
+    /// The proposer at a place of a reviewer's list.
+    pub(crate) fn proposer_at(&self, r: u32, place: u32) -> u32
+        requires in_range { r < length self.now.reviewers }
+        requires on_list { place < length (row self.now.reviewers r) }
+        ensures named { result ≡ entry self.now.reviewers r place }
+        ensures in_range { result < length self.now.proposers }
+    {
+        list_at(&self.reviewers, r)[place as usize]
+    }
+
     /// Whom a proposer lists, best first.
     pub fn proposer_list(&self, p: u32) -> &[u32]
         requires { p < length self.now.proposers }
@@ -325,7 +339,7 @@ impl Instance {
     }
 
     /// The place of proposer `p` on the list of the reviewer at `place` of `p`'s list; `None` where it isn't on it, so
-    /// that the entry is inert. Takes the same time for all.
+    /// that the entry is inert. Takes the same time for all where cross places are kept, else time in the length of that list.
     pub fn cross(&self, p: u32, place: u32) -> Option<u32>
         requires in_range { p < length self.now.proposers }
         requires on_list { place < length (row self.now.proposers p) }
@@ -334,25 +348,85 @@ impl Instance {
         ensures fits { IfSome result (λ back. back < most_agents) }
         ensures place_fits { place < most_agents }
     {
-        self.crosses.at(p)[place as usize].place()
+        match &self.crosses {
+            Some(crosses) => crosses.of_proposer(p)[place as usize].place(),
+            None => first_place(self.reviewer_list(self.reviewer_at(p, place)), p),
+        }
     }
 
-    /// For each place of a proposer's list, the proposer's place on the list of the reviewer there; none where it isn't on
-    /// it, so that the entry is inert. Takes the same time for all.
-    pub fn proposer_crosses(&self, p: u32) -> &[Cross]
-        requires { p < length self.now.proposers }
-        ensures { AreCrossPlacesOf self.now.proposers self.now.reviewers p result.now }
+    /// The place of reviewer `r` on the list of the proposer at `place` of `r`'s list; `None` where it isn't on it. Takes what
+    /// [`Instance::cross`] takes.
+    pub fn cross_back(&self, r: u32, place: u32) -> Option<u32>
+        requires in_range { r < length self.now.reviewers }
+        requires on_list { place < length (row self.now.reviewers r) }
+        ensures { result ≡ cross_place self.now.proposers (entry self.now.reviewers r place) r }
     {
-        self.crosses.at(p)
+        match &self.crosses {
+            Some(crosses) => crosses.of_reviewer(r)[place as usize].place(),
+            None => first_place(self.proposer_list(self.proposer_at(r, place)), r),
+        }
     }
 
-    /// For each place of a reviewer's list, the reviewer's place on the list of the proposer there; none where it isn't on
-    /// it, so that the entry is inert. Takes the same time for all.
-    pub fn reviewer_crosses(&self, r: u32) -> &[Cross]
-        requires { r < length self.now.reviewers }
-        ensures { AreCrossPlacesOf self.now.reviewers self.now.proposers r result.now }
+    /// The cross places of both sides' lists, where they are kept.
+    pub(crate) fn kept_crosses(&self) -> Option<&Crosses>
+        ensures { IfSome result (λ c. AreCrossesOf self.now.proposers self.now.reviewers c.now) }
     {
-        self.reviewer_crosses.at(r)
+        self.crosses.as_ref()
+    }
+
+    /// The cross places of both sides' lists, which are made where they aren't kept. Takes constant time where they are kept,
+    /// else time and memory in proportion to the agents and entries.
+    ///
+    /// # Errors
+    ///
+    /// `AllocError` where memory ran out, and only then.
+    pub fn crosses(&self, alloc: Global) -> Result<LentCrosses<'_>, AllocError>
+        ensures { IfOk result
+            (λ c. AreCrossesOf self.now.proposers self.now.reviewers (crosses_lent c)) }
+    {
+        match self.kept_crosses() {
+            Some(crosses) => Ok(LentCrosses::Kept(crosses)),
+            None => Ok(LentCrosses::Made(self.made_crosses(alloc)?)),
+        }
+    }
+
+    /// The cross places of both sides' lists, made anew.
+    fn made_crosses(&self, alloc: Global) -> Result<Crosses, AllocError>
+        ensures { IfOk result (λ c. AreCrossesOf self.now.proposers self.now.reviewers c) }
+    {
+        find_crosses(alloc, &self.proposers, &self.reviewers, &self.namings)
+    }
+
+    /// Keeps the cross places of both sides' lists from now on. Takes what [`Instance::crosses`] takes.
+    ///
+    /// # Errors
+    ///
+    /// `AllocError` where memory ran out, and only then. The instance is then as it was.
+    pub fn keep_crosses(&mut self) -> Result<(), AllocError>
+        ensures { self.new ≡ self.old }
+    {
+        if self.crosses.is_none() {
+            let alloc = *self.order.allocator();
+            self.crosses = Some(self.made_crosses(alloc)?);
+        }
+        Ok(())
+    }
+
+    /// Keeps tables of the names of both sides from now on. Names will be found by the hashes that [`Instance::held`] was given.
+    /// Takes time and memory in proportion to the agents, or constant time where the tables are kept.
+    ///
+    /// # Errors
+    ///
+    /// `AllocError` where memory ran out, and only then. The instance is then as it was.
+    pub fn keep_names(&mut self) -> Result<(), AllocError>
+        ensures { self.new ≡ self.old }
+    {
+        if self.names.is_none() {
+            let alloc = *self.order.allocator();
+            let hash = self.weighed.hash();
+            self.names = Some(name_tables(alloc, hash, &self.proposers, &self.reviewers)?);
+        }
+        Ok(())
     }
 
     /// Whether a proposer and a reviewer are acceptable to each other: each lists the other.
@@ -379,7 +453,7 @@ impl Instance {
     }
 
     /// Who lists a reviewer, by number and with the place.
-    pub(crate) fn namings_of(&self, r: u32) -> &[Naming]
+    pub(crate) fn namings_of(&self, r: u32) -> &[CompactNaming]
         requires { r < length self.now.reviewers }
         ensures namings { AreNamingsOf self.now.proposers r result.now }
         ensures instance { IsInstance self.now }
@@ -417,45 +491,61 @@ impl Instance {
         }
     }
 
-    /// The number of the proposer with a name, `None` where there is none.
+    /// The number of the proposer with a name, `None` where there is none. Takes time in proportion to the proposers where no
+    /// tables of names are kept.
     pub fn find_proposer(&self, name: &[u8]) -> Option<u32>
         ensures number { result ≡ position (bytes_eq name.now) (names_of self.now.proposers) }
         ensures in_range { IfSome result (λ n. n < length self.now.proposers) }
     {
-        self.left.find(name)
+        match &self.names {
+            Some(names) => names.proposers.find(name),
+            None => find_named(&self.proposers, name),
+        }
     }
 
-    /// The number of the reviewer with a name, `None` where there is none.
+    /// The number of the reviewer with a name, `None` where there is none. Takes time in proportion to the reviewers where no
+    /// tables of names are kept.
     pub fn find_reviewer(&self, name: &[u8]) -> Option<u32>
         ensures number { result ≡ position (bytes_eq name.now) (names_of self.now.reviewers) }
         ensures in_range { IfSome result (λ n. n < length self.now.reviewers) }
     {
-        self.right.find(name)
+        match &self.names {
+            Some(names) => names.reviewers.find(name),
+            None => find_named(&self.reviewers, name),
+        }
     }
 }
 
-/// An instance of parts that are known to make one, and of their names and of the pairs that are weighed.
-fn of_parts(
+/// An instance of parts that are known to make one, of their names and of the pairs that are weighed, with cross places.
+fn of_checked(
     alloc: Global,
     parts: Parts,
-    left: Names,
-    right: Names,
+    names: NameTables,
     weighed: Pairs,
 ) -> Result<Instance, AllocError>
     requires instance { IsInstance (written_in parts) }
     requires few { length parts.weights.items + length parts.forced.items
         + length parts.forbidden.items < 2 ^ 24 }
-    requires left { left ≡ names_of (agents_of parts.proposers.items) }
-    requires right { right ≡ names_of (agents_of parts.reviewers.items) }
+    requires names { AreNamesOf (agents_of parts.proposers.items) (agents_of parts.reviewers.items) names }
     requires pairs { weighed ≡ map weighed_pair parts.weights.items }
     ensures { IfOk result (λ i. i ≡ written_in parts) }
 {
-    let CrossPlaces {
-        rows: crosses,
-        others: reviewer_crosses,
-        namings,
-    } = crossings(alloc, &parts.proposers, &parts.reviewers)?;
-    Ok(Instance {
+    let (namings, crosses) = namings_and_crosses(alloc, &parts.proposers, &parts.reviewers)?;
+    Ok(of_parts(parts, namings, weighed, Some(crosses), Some(names)))
+}
+
+/// An instance of parts that are known to make one, and of what is kept beside them.
+fn of_parts(
+    parts: Parts,
+    namings: Packed<CompactNaming>,
+    weighed: Pairs,
+    crosses: Option<Crosses>,
+    names: Option<NameTables>,
+) -> Instance
+    requires { IsKept (written_in parts) namings weighed crosses names }
+    ensures { result ≡ written_in parts }
+{
+    Instance {
         kind: parts.kind,
         proposers: parts.proposers,
         reviewers: parts.reviewers,
@@ -464,11 +554,9 @@ fn of_parts(
         forbidden: parts.forbidden,
         seconds: parts.seconds,
         order: parts.order,
-        crosses,
-        reviewer_crosses,
         namings,
-        left,
-        right,
         weighed,
-    })
+        crosses,
+        names,
+    }
 }

@@ -6,15 +6,15 @@
 //! inert, and keeps its place (Manlove 2013, chapters 1 and 2; Gusfield and Irving 1989, chapter 1).
 //!
 //! [`Instance::build`] and [`Persons::build`] make instances, or name the first thing that stands in the way; `held` and
-//! [`Parts::plain`] are for parts that are known to make one. Beside these only [`Instance::reorder`] and
-//! [`Instance::add_seconds`] take memory.
+//! [`Parts::plain`] are for parts that are known to make one. Cross places and tables of names are kept on demand. Beside what
+//! makes them, only [`Instance::reorder`] and [`Instance::add_seconds`] take memory.
 #![tactic(auto)]
 
 mod agents;
 mod allowed;
 mod blocking;
 mod checks;
-mod cross;
+mod cross_search;
 mod crosses;
 mod faults;
 mod inputs;
@@ -22,8 +22,6 @@ mod instance;
 mod kinds;
 mod matching;
 mod names;
-mod namings;
-mod order;
 mod pairs;
 mod parts;
 mod persons;
@@ -32,10 +30,12 @@ mod seconds;
 pub mod witnesses;
 
 pub use agents::{Agent, Assignment};
-pub use cross::Cross;
+pub use cross_search::CrossSearch;
+pub use crosses::{Crosses, LentCrosses};
 pub use faults::InstanceFault;
 pub use inputs::Input;
 pub use instance::Instance;
 pub use kinds::{Kind, Measure, Side};
 pub use parts::Parts;
 pub use persons::Persons;
+pub use sm_lists::Cross;

@@ -10,11 +10,10 @@ ghost use Rattle.sm_instance.specs.Stable.{IsGainLimit};
 
 use crate::agents::Assignment;
 use crate::instance::Instance;
-use crate::namings::Naming;
-use sm_lists::earlier;
+use sm_lists::{CompactNaming, earlier};
 
 /// Does a proposer hold the place at which it names a reviewer?
-pub(crate) fn holds(a: &Assignment, naming: Naming) -> bool
+pub(crate) fn holds(a: &Assignment, naming: CompactNaming) -> bool
     requires { naming.by < length a.now.places.items }
     ensures { IsTrue result ↔ (held a.now.places.items naming.by ≡ Some naming.place) }
 {

@@ -1,14 +1,47 @@
 //! The names of one side's agents.
 
-ghost use Rattle.std.specs.Prelude.{◌≡◌, ◌≢◌, ℕ, ◌<◌, ◌≤◌, length, IfOk};
+ghost use Rattle.std.specs.Prelude.{◌≡◌, ◌≢◌, ℕ, ◌<◌, ◌≤◌, length, position, IfOk, IfSome};
+ghost use Rattle.std.specs.Str.{bytes_eq};
 ghost use Rattle.sm_text.specs.Limits.{most_agents};
 ghost use Rattle.sm_instance.specs.Written.{agent_at, names_of};
+ghost use Rattle.sm_instance.specs.Sound.{IsWithinLimits};
+ghost use Rattle.sm_instance.specs.Kept.{AreNamesOf};
 ghost use Rattle.sm_instance.specs.Vectors.{agents_of};
 
 use crate::agents::{Agent, name_at};
 use sm_names::Names;
 use sm_text::TextHash;
 use std::alloc::{AllocError, Global};
+
+/// The names of both sides' agents, by which an agent is found without a look at all of them.
+#[derive(Drop)]
+pub(crate) struct NameTables {
+    pub(crate) proposers: Names,
+    pub(crate) reviewers: Names,
+}
+
+/// The names of both sides, which will be found by these hashes.
+pub(crate) fn name_tables(
+    alloc: Global,
+    hash: TextHash,
+    proposers: &[Agent],
+    reviewers: &[Agent],
+) -> Result<NameTables, AllocError>
+    requires limits { IsWithinLimits (agents_of proposers.now) (agents_of reviewers.now) }
+    requires proposers { (a b : ℕ) → b < a → a < length (agents_of proposers.now)
+        → (agent_at (agents_of proposers.now) b).name ≢ (agent_at (agents_of proposers.now) a).name }
+    requires reviewers { (a b : ℕ) → b < a → a < length (agents_of reviewers.now)
+        → (agent_at (agents_of reviewers.now) b).name ≢ (agent_at (agents_of reviewers.now) a).name }
+    ensures { IfOk result
+        (λ names. AreNamesOf (agents_of proposers.now) (agents_of reviewers.now) names) }
+{
+    let proposers = names_for(alloc, hash, proposers)?;
+    let reviewers = names_for(alloc, hash, reviewers)?;
+    Ok(NameTables {
+        proposers,
+        reviewers,
+    })
+}
 
 /// The names of agents that all differ, in the order of the agents, which will be found by these hashes.
 pub(crate) fn names_for(
@@ -26,4 +59,18 @@ pub(crate) fn names_for(
         names.add(alloc, name_at(agents, a))?;
     }
     Ok(names)
+}
+
+/// The number of the agent with a name, `None` where there is none. Takes time in proportion to the agents.
+pub(crate) fn find_named(agents: &[Agent], name: &[u8]) -> Option<u32>
+    requires { length agents.now ≤ most_agents }
+    ensures number { result ≡ position (bytes_eq name.now) (names_of (agents_of agents.now)) }
+    ensures in_range { IfSome result (λ n. n < length agents.now) }
+{
+    for a in 0..agents.len() as u32 {
+        if name == name_at(agents, a) {
+            return Some(a);
+        }
+    }
+    None
 }

@@ -62,6 +62,11 @@ impl Pairs {
         Ok(self.pairs.insert(pair)?)
     }
 
+    /// The hashes by which pairs are found.
+    pub(crate) fn hash(&self) -> TextHash {
+        *self.pairs.hasher()
+    }
+
     /// How many pairs there are.
     pub(crate) fn len(&self) -> usize
         ensures { result ≡ length self.now }

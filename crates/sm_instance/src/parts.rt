@@ -6,7 +6,7 @@ ghost use Rattle.sm_instance.specs.Vectors.{agents_of, written_from, written_in}
 
 use crate::agents::Agent;
 use crate::kinds::Kind;
-use crate::order::first_numbers;
+use sm_lists::first_numbers;
 use std::alloc::{AllocError, Global};
 
 /// What an instance with two sides is made of. Each pair has the proposer first.

@@ -21,7 +21,7 @@ use Rattle.sm_theory.specs.declared.flow_lines.FlowLine.{FlowLine}
 use Rattle.sm_theory.specs.SecondNets.{second_net}
 use Rattle.sm_theory.proofs.Flow.Second.{step_of_edge}
 use Rattle.sm_theory.proofs.Net.Tests.{and_parts}
-use Rattle.sm_placed.specs.ShownNet.{net_shown}
+use Rattle.sm_seats.specs.ShownNet.{net_shown}
 use Rattle.sm_report.specs.Texts.{SINK}
 use Rattle.sm_answer_weight.specs.WeightAnswer.{shown_node, member_numbers}
 use Rattle.sm_answer_weight.proofs.MemberLemmas.{members_more}

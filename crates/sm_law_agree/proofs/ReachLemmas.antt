@@ -19,7 +19,7 @@ use Rattle.sm_theory.proofs.Net.Paths.{reach_on}
 use Rattle.sm_theory.proofs.Net.Tests.{not_same}
 use Rattle.sm_seats.specs.SeatMarket.{seat_market}
 use Rattle.sm_seats.specs.Seating.{seating_of}
-use Rattle.sm_placed.specs.ShownNet.{forces, forbids, net_shown, second_net_shown}
+use Rattle.sm_seats.specs.ShownNet.{forces, forbids, net_shown, second_net_shown}
 use Rattle.sm_answer_weight.specs.WeightAnswer.{AreCertificates}
 
 -- with a rotation a reach has each one to which an unbounded edge leads

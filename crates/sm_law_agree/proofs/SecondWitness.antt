@@ -25,7 +25,7 @@ use Rattle.sm_theory.proofs.Weighing.Second.{certificate_of_two}
 use Rattle.sm_seats.specs.Seating.{seating_of, written_of}
 use Rattle.sm_seats.specs.Correspondence.{IsSeating}
 use Rattle.sm_seats.proofs.CorrespondenceLaws.{is_seating, sound_entries}
-use Rattle.sm_placed.proofs.SecondLemmas.{lightest_by_both}
+use Rattle.sm_seats.proofs.SecondLemmas.{lightest_by_both}
 use Rattle.sm_answer_weight.specs.WeightAnswer.{FillsCut, IsCertificate, IsWeightAnswer}
 use Rattle.sm_answer_weight.specs.Witnesses.{parts_of_two, answer_of_two}
 use Rattle.sm_law_agree.specs.Witnesses.{weighed_by_two, WeighedByTwo}

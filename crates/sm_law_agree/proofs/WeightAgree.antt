@@ -23,7 +23,7 @@ use Rattle.sm_seats.specs.SeatEntries.{AreFewSeats}
 use Rattle.sm_seats.specs.Seating.{Seating, seating_of, written_of}
 use Rattle.sm_seats.proofs.CorrespondenceLaws.{is_seating, sound_entries}
 use Rattle.sm_seats.proofs.LawsProved.{few_seats_fit}
-use Rattle.sm_placed.specs.Levels.{has_two_levels}
+use Rattle.sm_seats.specs.Levels.{has_two_levels}
 use Rattle.sm_answer_rotations.specs.Reduction.{seat_line}
 use Rattle.sm_answer_rotations.proofs.ShownLemmas.{matching_is}
 use Rattle.sm_answer_weight.specs.WeightAnswer.{AreCertificates, WeightParts, net_in, second_net_in, matching_in, in_two, shown_node, flow_line, second_flow_line, second_figures}

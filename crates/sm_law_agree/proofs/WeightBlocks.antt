@@ -22,7 +22,7 @@ use Rattle.sm_seats.specs.SeatMarket.{seat_market, seats_of}
 use Rattle.sm_seats.specs.Seating.{Seating, seating_of}
 use Rattle.sm_seats.specs.Correspondence.{IsSeating, weights_by}
 use Rattle.sm_seats.proofs.CorrespondenceLaws.{is_seating, sound_entries}
-use Rattle.sm_placed.specs.Levels.{has_two_levels, pair_second_by}
+use Rattle.sm_seats.specs.Levels.{has_two_levels, pair_second_by}
 use Rattle.sm_answer_rotations.specs.Reduction.{seat_of, seat_line}
 use Rattle.sm_answer_rotations.specs.RotationLines.{numbers_of, seated_rotation, rotation_line, needs_line}
 use Rattle.sm_answer_rotations.proofs.RotationLemmas.{seats_named}

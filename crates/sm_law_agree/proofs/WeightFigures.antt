@@ -19,8 +19,8 @@ use Rattle.sm_report.specs.Lines.{LineData}
 use Rattle.sm_report.specs.Texts.{SINK}
 use Rattle.sm_seats.specs.SeatMarket.{seat_market}
 use Rattle.sm_seats.specs.Seating.{Seating, seating_of, written_of}
-use Rattle.sm_placed.specs.Levels.{has_two_levels}
-use Rattle.sm_placed.specs.ShownNet.{second_gain_shown, net_shown, second_net_shown}
+use Rattle.sm_seats.specs.Levels.{has_two_levels}
+use Rattle.sm_seats.specs.ShownNet.{second_gain_shown, net_shown, second_net_shown}
 use Rattle.sm_answer_weight.specs.WeightAnswer.{FillsCut, IsCertificate, AreCertificates, WeightParts, net_in, second_net_in, matching_in, flow_line, second_flow_line, member_numbers}
 use Rattle.sm_check_clauses.specs.declared.verdicts.Reason.{Reason}
 use Rattle.sm_check_clauses.specs.Said.{pairs_in}

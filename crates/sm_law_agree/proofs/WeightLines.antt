@@ -22,7 +22,7 @@ use Rattle.sm_answer.proofs.AnswerLemmas.{lines_from-same}
 use Rattle.sm_seats.specs.SeatMarket.{seat_market}
 use Rattle.sm_seats.specs.Seating.{Seating, seating_of}
 use Rattle.sm_seats.specs.Correspondence.{weights_of}
-use Rattle.sm_placed.specs.Levels.{has_two_levels, seconds_by}
+use Rattle.sm_seats.specs.Levels.{has_two_levels, seconds_by}
 use Rattle.sm_answer.specs.MatchingLines.{pair_line}
 use Rattle.sm_answer_rotations.specs.Reduction.{seat_line}
 use Rattle.sm_answer_rotations.specs.RotationLines.{first_seat, first_seat_line, rotation_line, needs_line}

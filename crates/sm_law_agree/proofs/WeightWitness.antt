@@ -5,7 +5,7 @@ use Rattle.std.specs.List.{All}
 use Rattle.std.specs.Int.RustNames.{unsigned_abs}
 use Rattle.std.proofs.lemmas.List.Elements.{All-cons, All-from_recursion}
 use Rattle.sm_text.specs.Limits.{most_weight}
-use Rattle.sm_instance.proofs.OrderLemmas.{range_is_each_once}
+use Rattle.sm_lists.proofs.OrderLemmas.{range_is_each_once}
 use Rattle.sm_instance.proofs.SecondLemmas.{zeros_small}
 use Rattle.sm_instance.specs.Written.{Written}
 use Rattle.sm_instance.specs.Sound.{IsInstance, IsPairOf, IsSoundItem, items_of}
@@ -38,9 +38,9 @@ use Rattle.sm_theory.proofs.Weighing.Second.{one_level}
 use Rattle.sm_seats.specs.Seating.{seating_of, written_of}
 use Rattle.sm_seats.specs.Correspondence.{IsSeating}
 use Rattle.sm_seats.proofs.CorrespondenceLaws.{is_seating, sound_entries}
-use Rattle.sm_placed.specs.Levels.{pair_second_by, seconds_by}
-use Rattle.sm_placed.proofs.LevelLemmas.{none_second}
-use Rattle.sm_placed.proofs.SecondLemmas.{weight_none, lightest_by_both}
+use Rattle.sm_seats.specs.Levels.{pair_second_by, seconds_by}
+use Rattle.sm_seats.proofs.LevelLemmas.{none_second}
+use Rattle.sm_seats.proofs.SecondLemmas.{weight_none, lightest_by_both}
 use Rattle.sm_answer_weight.specs.WeightAnswer.{member_numbers, IsWeightAnswer}
 use Rattle.sm_instance.specs.Lightest.{IsLightestByBoth}
 use Rattle.sm_answer_weight.proofs.MemberLemmas.{are_rotations}

@@ -6,7 +6,7 @@ use Rattle.std.proofs.lemmas.Bool.{false≢true}
 use Rattle.std.proofs.lemmas.Bool.Decides.{nat_tests}
 use Rattle.std.proofs.lemmas.Option.{same_Some, none-some}
 use Rattle.sm_text.specs.Name as name
-use Rattle.sm_instance.proofs.OrderLemmas.{range_is_each_once}
+use Rattle.sm_lists.proofs.OrderLemmas.{range_is_each_once}
 use Rattle.sm_instance.proofs.SecondLemmas.{zeros_small}
 use Rattle.sm_instance.specs.Written.{AgentData, Written, agent_at, row, entry, capacity_of, IsAcceptable}
 use Rattle.sm_instance.specs.Matching.{held, standing, load, IsMatching}

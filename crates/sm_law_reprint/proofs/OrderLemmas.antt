@@ -4,7 +4,7 @@ use Rattle.std.specs.List.{list_any, range_with_len}
 use Rattle.std.proofs.lemmas.Bool.Decides.{nat_tests}
 use Rattle.std.proofs.lemmas.List.Folds.{list_any_at}
 use Rattle.std.proofs.lemmas.List.FromFn.{length-range_with_len, get_or-range_with_len}
-use Rattle.sm_instance.specs.Sound.{IsEachOnce}
+use Rattle.sm_lists.specs.EachOnce.{IsEachOnce}
 use Rattle.sm_reader.specs.InstanceText.{full_order}
 
 -- a filter that each passes keeps all, and one that none passes keeps nothing

@@ -6,7 +6,7 @@ use Rattle.std.proofs.lemmas.Bool.{false≢true}
 use Rattle.sm_text.specs.Name as name
 use Rattle.sm_text.specs.Tokens as token
 use Rattle.sm_text.specs.Name.{is_name}
-use Rattle.sm_instance.proofs.OrderLemmas.{range_is_each_once}
+use Rattle.sm_lists.proofs.OrderLemmas.{range_is_each_once}
 use Rattle.sm_instance.proofs.SecondLemmas.{zeros_small}
 use Rattle.sm_instance.specs.Written.{AgentData, agent_at, row}
 use Rattle.sm_instance.specs.Sound.{IsSoundAgent, AreSoundAgents, IsSoundEntry, AreSoundEntries, IsSoundItem, items_of}

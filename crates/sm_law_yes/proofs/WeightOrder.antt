@@ -21,8 +21,8 @@ use Rattle.sm_theory.specs.declared.flow_lines.FlowLine.{FlowLine}
 use Rattle.sm_seats.specs.SeatMarket.{seat_market}
 use Rattle.sm_seats.specs.Seating.{seating_of, written_of}
 use Rattle.sm_seats.specs.Correspondence.{weights_of}
-use Rattle.sm_placed.specs.Levels.{has_two_levels, seconds_by}
-use Rattle.sm_placed.specs.ShownNet.{net_shown, second_net_shown}
+use Rattle.sm_seats.specs.Levels.{has_two_levels, seconds_by}
+use Rattle.sm_seats.specs.ShownNet.{net_shown, second_net_shown}
 use Rattle.sm_report.specs.Heads.{HeadData}
 use Rattle.sm_report.specs.Lines.{LineData}
 use Rattle.sm_report.specs.declared.keywords.Keyword.TheVariants as keyword

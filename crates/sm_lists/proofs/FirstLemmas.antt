@@ -1,5 +1,5 @@
 -- Noting places one after another, so that each agent keeps its first.
-use Rattle.std.proofs.Common.{◌≡◌, ◌≢◌, ℕ, ◌+◌, ◌<◌, false, true≢false, is_some, List, Option, Some, None, length, get_or, set, refl, sym, ap, subst, ◌∙◌, arith, ⊎_elim}
+use Rattle.std.proofs.Common.{◌≡◌, ◌≢◌, ℕ, ◌+◌, ◌<◌, ◌||◌, Bool, true, false, true≢false, is_some, List, Option, Some, None, length, get_or, set, refl, sym, ap, subst, ◌∙◌, arith, ⊎_elim}
 use Rattle.std.proofs.lemmas.Bool.{cases_lt, cases_eq}
 use Rattle.std.proofs.lemmas.Option.{same_Some, none-some}
 use Rattle.std.proofs.lemmas.List.{length-set, get_or_past, get_or-set_same, get_or-set_other}
@@ -116,3 +116,50 @@ once_more list n places None is seen once k l inside = ⊎_elim
     let P : ℕ → Type 0 = λ j. get_or list j 0 < length places → noted_of (set places (get_or list n 0) (Some n)) (get_or list j 0) ≡ Some j in
     subst P last (λ within. get_or-set_same places (get_or list n 0) (Some n) None within) inside)
     (cases_lt k n)
+
+-- of the first n agents on a list one has another place noted than that at which it stands
+pub record IsAgain (list : List ℕ) (n : ℕ) (places : List (Option ℕ)) : Type 0 where
+  pub at : ℕ
+  pub before : at < n
+  pub inside : get_or list at 0 < length places
+  pub other : noted_of places (get_or list at 0) ≢ Some at
+
+-- whoever is noted twice is such an agent, and stays one
+pub again_more : (list : List ℕ) (n : ℕ) (places : List (Option ℕ)) (o : Option ℕ) → noted_of places (get_or list n 0) ≡ o → AreFirst (λ j. get_or list j 0) (λ j. j) n places
+    → (repeats seen : Bool) → seen ≡ is_some o → (repeats ≡ true → IsAgain list n places) → (repeats || seen) ≡ true → IsAgain list (n + 1) (first_noted o places (get_or list n 0) n)
+again_more list n places (Some v) is first repeats seen told again h =
+    record {
+      at = n;
+      before = omega arith;
+      inside = ⊎_elim (λ l. l) (λ past. absurd (none-some v (sym (get_or_past places (get_or list n 0) None past) ∙ is))) (cases_lt (get_or list n 0) (length places));
+      other = λ same.
+          let w = first.first (get_or list n 0) v is in
+          let lower = w.below in
+          let there = w.told in
+          let here = same_Some v n (sym is ∙ same) in
+          omega arith;
+    }
+again_more list n places None is first false seen told again h = absurd (true≢false (sym h ∙ told))
+again_more list n places None is first true seen told again h =
+    let w = again refl in
+    let new : List (Option ℕ) = set places (get_or list n 0) (Some n) in
+    let long = length-set places (get_or list n 0) (Some n) in
+    let lower = w.before in
+    let within = w.inside in
+    record {
+      at = w.at;
+      before = omega arith;
+      inside = omega arith;
+      other = λ same. ⊎_elim
+          (λ (here : get_or list w.at 0 ≡ get_or list n 0).
+          let last = same_Some n w.at (sym (get_or-set_same places (get_or list n 0) (Some n) None (omega arith)) ∙ ap (noted_of new) (sym here) ∙ same) in
+          omega arith)
+          (λ apart. w.other (sym (get_or-set_other places (get_or list n 0) (get_or list w.at 0) (Some n) None apart) ∙ same))
+          (cases_eq (get_or list w.at 0) (get_or list n 0));
+    }
+
+-- where each agent has the place noted at which it stands none was noted twice
+pub none_again : {list : List ℕ} {n : ℕ} {places : List (Option ℕ)} (repeats : Bool) → (repeats ≡ true → IsAgain list n places)
+    → ((k : ℕ) → k < n → get_or list k 0 < length places → noted_of places (get_or list k 0) ≡ Some k) → repeats ≡ false
+none_again false again once = refl
+none_again true again once = let w = again refl in absurd (w.other (once w.at w.before w.inside))

@@ -15,3 +15,4 @@ pub mod SpanLemmas
 pub mod RaisedLemmas
 pub mod RaisedSpanLemmas
 pub mod PackedLemmas
+pub mod OrderLemmas

@@ -1,9 +1,12 @@
 pub mod Rows
 pub mod Limits
 pub mod Orders
+pub mod EachOnce
 pub mod Crosses
 pub mod Namings
+pub mod CompactNamings
 pub mod Held
+pub mod Places
 pub mod Kept
 pub mod Sums
 pub mod Earlier

@@ -5,7 +5,7 @@
 //! cross place from there, and is read there with the place of its own: so one pass over those who name an agent writes the
 //! cross places of both sides.
 
-ghost use Rattle.std.specs.Prelude.{◌≡◌, ◌≢◌, ℕ, ◌+◌, ◌<◌, ◌≤◌, [], ◌^◌, List, Option, Some, None, false, length, map, slice_index, slice_index_or, IfOk, IfSome, OnOk};
+ghost use Rattle.std.specs.Prelude.{◌≡◌, ◌≢◌, ℕ, ◌+◌, ◌<◌, ◌≤◌, ◌↔◌, [], ◌^◌, List, Option, Some, None, false, length, map, slice_index, slice_index_or, IfOk, IfSome, OnOk};
 ghost use Rattle.sm_lists.specs.Rows.{row, lists_in};
 ghost use Rattle.sm_lists.specs.Limits.{AreWithinLimits};
 ghost use Rattle.sm_lists.specs.Crosses.{found_on, cross_place, AreCrossPlaces};
@@ -19,18 +19,16 @@ use crate::packed::Packed;
 use crate::place::KeptPlace;
 use std::alloc::{AllocError, Global};
 
-/// The cross places of both sides, and who names each agent of the second.
+/// The cross places of both sides.
 #[derive(Drop)]
-pub struct CrossPlaces<C, N> {
+pub struct CrossPlaces<C> {
     /// Beside each entry of the first side's lists.
     pub rows: Packed<C>,
     /// Beside each entry of the second side's lists.
     pub others: Packed<C>,
-    /// For each agent of the second side, by number and place.
-    pub namings: Packed<N>,
 }
 
-/// The cross places of any lists of two sides, and who of the first side names each agent of the second.
+/// The cross places of any lists of two sides, by who of the first side names each agent of the second, as [`namings`] found.
 ///
 /// An entry may name nobody, stand twice on its list, or not be returned. Agents and places are numbered from 0. Takes time
 /// and memory in proportion to the agents and entries.
@@ -42,21 +40,19 @@ pub fn cross_places<C: KeptPlace, N: KeptNaming>(
     alloc: Global,
     rows: &[&[u32]],
     others: &[&[u32]],
-) -> Result<CrossPlaces<C, N>, AllocError>
+    namings: &Packed<N>,
+) -> Result<CrossPlaces<C>, AllocError>
     requires rows { AreWithinLimits (lists_in rows.now) }
     requires others { AreWithinLimits (lists_in others.now) }
     requires short_rows { AreShort (lists_in rows.now) C.most }
     requires short_others { AreShort (lists_in others.now) C.most }
-    requires few { AreShort (lists_in rows.now) N.most }
+    requires namings { AreNamings (lists_in rows.now) (length (lists_in others.now))
+        (length (lists_in rows.now)) 0 (held_in N.kept namings.now) }
     ensures rows { IfOk result (λ c. AreCrossPlaces (lists_in rows.now) (lists_in others.now)
         (held_in C.kept c.rows)) }
     ensures others { IfOk result (λ c. AreCrossPlaces (lists_in others.now) (lists_in rows.now)
         (held_in C.kept c.others)) }
-    ensures namings { IfOk result (λ c. AreNamings (lists_in rows.now)
-        (length (lists_in others.now))
-        (length (lists_in rows.now)) 0 (held_in N.kept c.namings)) }
 {
-    let namings: Packed<N> = namings(alloc, rows, others)?;
     let mut of_rows: Packed<C> = Packed::filled(alloc, rows, C::of(None))?;
     let mut of_others: Packed<C> = Packed::filled(alloc, others, C::of(None))?;
     let mut listed = Notes::new(alloc, rows.len())?;
@@ -69,7 +65,6 @@ pub fn cross_places<C: KeptPlace, N: KeptNaming>(
     Ok(CrossPlaces {
         rows: of_rows,
         others: of_others,
-        namings,
     })
 }
 
@@ -81,9 +76,15 @@ fn lent_at<'a>(rows: &[&'a [u32]], a: u32) -> &'a [u32]
     rows[a as usize]
 }
 
-/// Who of one side names each agent of the other. Each has room for as many as its list is long: whoever is named mostly names
-/// back.
-fn namings<N: KeptNaming>(
+/// Who of one side names each agent of the other, by number and place, for any lists of two sides. Each agent has room for as
+/// many as its list is long: whoever is named mostly names back.
+///
+/// Agents and places are numbered from 0. Takes time and memory in proportion to the agents and entries.
+///
+/// # Errors
+///
+/// `AllocError` where memory ran out, and only then.
+pub fn namings<N: KeptNaming>(
     alloc: Global,
     rows: &[&[u32]],
     others: &[&[u32]],
@@ -101,7 +102,8 @@ fn namings<N: KeptNaming>(
     Ok(namings)
 }
 
-/// Adds the namings of one list.
+/// Adds the namings of one list. As those of `note_list` and `write_namings`, its loop is never inlined, so that it has all registers.
+#[inline(never)]
 fn add_namings<N: KeptNaming>(
     namings: &mut Packed<N>,
     by: u32,
@@ -125,7 +127,9 @@ fn add_namings<N: KeptNaming>(
     Ok(())
 }
 
-/// Notes, in a new round, each agent's first place on a list. Whether an agent who is noted stands on it twice.
+/// Notes, in a new round, each agent's first place on a list. Whether an agent who is noted stands on it twice. Never inlined, as
+/// `add_namings`.
+#[inline(never)]
 fn note_list(list: &[u32], notes: &mut Notes) -> bool
     requires round { notes.old.rounds + 1 < 2 ^ 32 }
     requires short { length list.now < 2 ^ 24 }
@@ -133,9 +137,9 @@ fn note_list(list: &[u32], notes: &mut Notes) -> bool
     ensures one_each { length notes.new.places ≡ length notes.old.places }
     ensures found { (a : ℕ) → a < length notes.old.places → noted_of notes.new.places a
         ≡ found_on list.now a }
-    ensures once { result ≡ false → (k : ℕ) → k < length list.now → slice_index list.now k
+    ensures once { result ≡ false ↔ ((k : ℕ) → k < length list.now → slice_index list.now k
         < length notes.old.places
-        → noted_of notes.new.places (slice_index list.now k) ≡ Some k }
+        → noted_of notes.new.places (slice_index list.now k) ≡ Some k) }
 {
     notes.clear();
     let mut repeats = false;
@@ -146,7 +150,9 @@ fn note_list(list: &[u32], notes: &mut Notes) -> bool
 }
 
 /// Writes the cross places of the entries that make these namings of `b`, and beside the first place of each of those agents
-/// on its own list where they first name it, where `listed` has the first place of each agent there.
+/// on its own list where they first name it, where `listed` has the first place of each agent there. Never inlined, as
+/// `add_namings`.
+#[inline(never)]
 fn write_namings<C: KeptPlace, N: KeptNaming>(
     b: u32,
     namings: &[N],

@@ -7,7 +7,7 @@ use Rattle.std.proofs.Math.Nat.{mul-le-mul_left, mul-le-mul_right, div-le_of_le-
 use Rattle.std.specs.Cmp.Derive.{both_true}
 use Rattle.sm_text.specs.Limits.{most_agents, most_entries, most_capacity, most_name_bytes}
 use Rattle.sm_text.specs.Name.{begins_name, is_name_byte, is_name}
-use Rattle.sm_instance.proofs.OrderLemmas.{range_is_each_once}
+use Rattle.sm_lists.proofs.OrderLemmas.{range_is_each_once}
 use Rattle.sm_instance.specs.Written.{AgentData, agent_at, plain_written}
 use Rattle.sm_instance.specs.Sound.{IsInstance, ArePersons, AreSoundAgents, AreSoundEntries, is_single, entries_of}
 use Rattle.sm_instance.specs.declared.kinds.Kind.{Kind}

@@ -10,7 +10,7 @@ ghost use Rattle.sm_market.specs.Crosses.{AreCrosses};
 
 use crate::entries::check_entries;
 use crate::faults::{MarketFault, Side};
-use sm_lists::{CrossPlaces, Naming, RaisedRows, Rows, cross_places, lent};
+use sm_lists::{CrossPlaces, Naming, Packed, RaisedRows, Rows, cross_places, lent, namings};
 use std::alloc::{AllocError, Global};
 use std::marker::Model;
 
@@ -71,7 +71,6 @@ impl Market {
         let CrossPlaces {
             rows: proposer_crosses,
             others: reviewer_crosses,
-            ..
         } = crosses_of(alloc, &proposer_lists, &reviewer_lists)?;
         check_entries(
             alloc,
@@ -257,7 +256,7 @@ fn crosses_of(
     alloc: Global,
     proposers: &[Vec<u32>],
     reviewers: &[Vec<u32>],
-) -> Result<CrossPlaces<u32, Naming>, AllocError>
+) -> Result<CrossPlaces<u32>, AllocError>
     requires { IsWithinLimits (lists_of proposers.now reviewers.now) }
     ensures proposers { IfOk result (λ c. AreCrossPlaces (rows_of proposers.now)
         (rows_of reviewers.now)
@@ -268,7 +267,8 @@ fn crosses_of(
 {
     let proposers = lent(alloc, proposers)?;
     let reviewers = lent(alloc, reviewers)?;
-    cross_places(alloc, &proposers, &reviewers)
+    let namings: Packed<Naming> = namings(alloc, &proposers, &reviewers)?;
+    cross_places(alloc, &proposers, &reviewers, &namings)
 }
 
 /// These lists, one behind another. The vectors are freed.

@@ -12,7 +12,7 @@ use Rattle.sm_instance.specs.Sound.{IsInstance}
 use Rattle.sm_instance.specs.Ranks.{is_zero, HasSeconds}
 use Rattle.sm_instance.specs.Named.{SaidWeight}
 use Rattle.sm_instance.specs.declared.inputs.Input.TheVariants.{Two}
-use Rattle.sm_instance.proofs.OrderLemmas.{each_once_long}
+use Rattle.sm_lists.proofs.OrderLemmas.{each_once_long}
 use Rattle.sm_instance.proofs.NonzeroLemmas.{zero_is, any_is}
 use Rattle.sm_printed.specs.Names.{said_weight, said_of}
 use Rattle.sm_printed.specs.Printed.{second_text, format_of}

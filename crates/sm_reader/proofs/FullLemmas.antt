@@ -10,7 +10,7 @@ use Rattle.std.proofs.lemmas.List.Folds.{list_any_at, list_any-append}
 use Rattle.std.proofs.lemmas.List.FromFn.{length-range_with_len, get_or-range_with_len, filter_of_map_range_with_len_more}
 use Rattle.std.proofs.lemmas.List.Kept.{AllPairs-filter}
 use Rattle.std.proofs.Math.ListN.{get_or-append}
-use Rattle.sm_instance.specs.Sound.{IsEachOnce}
+use Rattle.sm_lists.specs.EachOnce.{IsEachOnce}
 use Rattle.sm_reader.specs.InstanceText.{full_order}
 
 -- the others up to a number, with one more

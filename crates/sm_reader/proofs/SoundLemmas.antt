@@ -11,7 +11,8 @@ use Rattle.std.proofs.Math.ListN.{get_or-append}
 use Rattle.sm_text.specs.Limits.{most_capacity, most_weight}
 use Rattle.sm_text.specs.Name.{is_name}
 use Rattle.sm_instance.specs.Written.{AgentData, no_agent, agent_at, weighed}
-use Rattle.sm_instance.specs.Sound.{IsEachOnce, AreSoundAgents, AreSoundEntries, IsPairOf, items_of, IsSoundItem, is_single, IsInstance, ArePersons, entries_of as entries_in}
+use Rattle.sm_instance.specs.Sound.{AreSoundAgents, AreSoundEntries, IsPairOf, items_of, IsSoundItem, is_single, IsInstance, ArePersons, entries_of as entries_in}
+use Rattle.sm_lists.specs.EachOnce.{IsEachOnce}
 use Rattle.sm_lists.specs.Pairs.{pair_at}
 use Rattle.sm_instance.specs.declared.kinds.Kind.{Kind}
 use Rattle.sm_instance.specs.declared.kinds.Kind.TheVariants.{Marriage, Hospitals, Roommates}

@@ -9,7 +9,9 @@ ghost use Rattle.sm_theory.specs.Rooms.{AreRoomLists};
 
 use crate::entries::check_entries;
 use crate::faults::RoomFault;
-use sm_lists::{CrossPlaces, KeptPlace, Naming, Packed, cross_places, entry_at, lent, list_at};
+use sm_lists::{
+    CrossPlaces, KeptPlace, Naming, Packed, cross_places, entry_at, lent, list_at, namings,
+};
 use std::alloc::{AllocError, Global};
 use std::marker::Model;
 
@@ -129,6 +131,7 @@ fn crosses_of(alloc: Global, lists: &[Vec<u32>]) -> Result<Packed<u32>, AllocErr
         (held_in place_in c)) }
 {
     let lent = lent(alloc, lists)?;
-    let crosses: CrossPlaces<u32, Naming> = cross_places(alloc, &lent, &lent)?;
+    let namings: Packed<Naming> = namings(alloc, &lent, &lent)?;
+    let crosses: CrossPlaces<u32> = cross_places(alloc, &lent, &lent, &namings)?;
     Ok(crosses.rows)
 }

@@ -130,6 +130,17 @@ length-filter-le t (x ∷ xs) = elim (test_cases (t x)) [
   | inr fails ↦ rw (left_out t x xs fails) (let deep = length-filter-le t xs in omega arith)
 ]
 
+-- the first items keep no more than all
+pub length-filter-take : (t : ℕ → Bool) (xs : List ℕ) (i : ℕ) → length (filter t (take i xs)) ≤ length (filter t xs)
+length-filter-take t xs zero = omega arith
+length-filter-take t [] (suc i) = omega arith
+length-filter-take t (x ∷ xs) (suc i) =
+    let deep = length-filter-take t xs i in
+    elim (test_cases (t x)) [
+      | inl passes ↦ rw (taken t x (take i xs) passes, taken t x xs passes) (omega (arith, deep))
+      | inr fails ↦ rw (left_out t x (take i xs) fails, left_out t x xs fails) deep
+    ]
+
 -- where all pass a test, so many do before a place
 pub whole_before : (t : ℕ → Bool) (xs : List ℕ) (j : ℕ) → length (filter t xs) ≡ length xs → j ≤ length xs → length (filter t (take j xs)) ≡ j
 whole_before t xs zero e le = refl

@@ -1,11 +1,11 @@
 -- A reviewer whose seats are all taken has nobody further down its list.
-use Rattle.std.proofs.Common.{◌≡◌, ℕ, zero, suc, ◌+◌, ◌<◌, ◌≤◌, ◌⊎◌, Bool, true, false, cond, List, [], ◌∷◌, Option, length, get_or, take, refl, sym, ap, ◌∙◌, subst, arith, inl, inr}
+use Rattle.std.proofs.Common.{◌≡◌, ℕ, zero, suc, ◌+◌, ◌<◌, ◌≤◌, ◌⊎◌, Bool, true, false, cond, List, [], ◌∷◌, Option, length, get_or, take, sym, ap, ◌∙◌, arith, inl, inr}
 use Rattle.std.specs.List.{filter}
-use Rattle.std.proofs.lemmas.Bool.{cases_lt, false≢true}
+use Rattle.std.proofs.lemmas.Bool.{cases_lt}
 use Rattle.std.proofs.lemmas.List.{take_all}
 use Rattle.sm_instance.specs.Written.{Written, capacity_of}
 use Rattle.sm_instance.specs.Faults.{HasSoundEntries}
-use Rattle.sm_instance.specs.Matching.{held, load, is_at, IsMatching}
+use Rattle.sm_instance.specs.Matching.{load, is_at, IsMatching}
 use Rattle.sm_instance.proofs.LoadLemmas.{at_place}
 use Rattle.sm_seats.specs.Mutual.{mutual_row}
 use Rattle.sm_seats.specs.SeatMarket.{seat_count, seats_before, seats_of}

@@ -28,3 +28,8 @@ pub mod CrossRows
 pub mod SeatingMade
 pub mod KeptLemmas
 pub mod PlainLemmas
+pub mod PlaceLemmas
+pub mod RankLemmas
+pub mod LevelLemmas
+pub mod SecondLemmas
+pub mod ShownNetLemmas

@@ -1,5 +1,6 @@
 -- A market of few seats is within its limits.
-use Rattle.std.proofs.Common.{◌≡◌, ℕ, zero, suc, ◌+◌, ◌*◌, ◌<◌, ◌≤◌, ◌++◌, Bool, false, nat_lt, Some, None, List, [], ◌∷◌, length, map, get_or, ltb-false, refl, sym, ap, ◌∙◌, subst, arith, inl, inr}
+use Rattle.std.proofs.Common.{◌≡◌, ℕ, zero, suc, ◌+◌, ◌*◌, ◌<◌, ◌≤◌, ◌++◌, Bool, false, nat_lt, Some, None, List, [], ◌∷◌, length, map, get_or, min, ltb-false, refl, sym, ap, ◌∙◌, subst, arith, inl, inr}
+use Rattle.std.proofs.lemmas.Nat.{mul-le}
 use Rattle.std.specs.List.{flat_map, range_with_len, sum_by, All}
 use Rattle.std.proofs.lemmas.List.Sums.{sum_by_push, sum_by-append, sum_by-le}
 use Rattle.std.proofs.lemmas.List.Concat.{flat_map-append}
@@ -11,20 +12,37 @@ use Rattle.std.proofs.lemmas.List.FromFn.{get_or-range_with_len, length-range_wi
 use Rattle.sm_text.specs.Limits.{most_seat_entries}
 use Rattle.sm_instance.proofs.AcceptLemmas.{lt_true}
 use Rattle.sm_theory.proofs.Bridge.Places.{position_cases}
-use Rattle.sm_instance.specs.Written.{Written}
+use Rattle.sm_instance.specs.Written.{Written, row, capacity_of}
 use Rattle.sm_instance.specs.Faults.{HasSoundEntries}
 use Rattle.sm_market.specs.Limits.{IsWithinLimits}
-use Rattle.sm_seats.specs.Mutual.{mutual_row}
+use Rattle.sm_seats.specs.Mutual.{lists_back, mutual_row}
 use Rattle.sm_seats.specs.SeatMarket.{seat_count, seats_before, named_seats, seats_of, row_of_seat, seat_market}
 use Rattle.sm_seats.specs.SeatEntries.{seat_entries, seat_entries_before, AreFewSeats, IsFirstTooMany, first_too_many}
 use Rattle.sm_lists.proofs.RangeLemmas.{range_more}
 use Rattle.sm_seats.proofs.SeatLemmas.{seats_before_more, seat_count-le-row, length-reviewers, length-names}
 use Rattle.sm_seats.proofs.MarketLaws.{length-proposers, is_market}
 use Rattle.sm_seats.proofs.EntryLemmas.{entries-le}
+use Rattle.sm_seats.proofs.FilterLemmas.{length-filter-le}
 
 -- one more reviewer
 pub seat_entries_before-suc : (w : Written) (n : ℕ) → seat_entries_before w (n + 1) ≡ seat_entries_before w n + seat_entries w n
 seat_entries_before-suc w n = ap (sum_by (seat_entries w)) (range_more 0 n n (omega arith)) ∙ sum_by_push (seat_entries w) (range_with_len 0 n) n
+
+-- no more than the seats would have if the whole list were acceptable
+pub seat_entries-le : (w : Written) (r : ℕ) {count capacity len : ℕ} → count ≡ min capacity len → capacity ≡ capacity_of w.reviewers r → len ≡ length (row w.reviewers r) → seat_entries w r ≤ count * len
+seat_entries-le w r {count} {capacity} {len} is c l =
+    let fewer = length-filter-le (lists_back w.proposers r) (row w.reviewers r) in
+    mul-le (seat_count w r) (length (mutual_row w.reviewers w.proposers r)) count len (omega (arith, is, c, l, fewer)) (omega (arith, l, fewer))
+
+-- no more than those of all later ones with them
+pub seat_entries_end : (w : Written) (r n : ℕ) → r < n → seat_entries_before w (r + 1) ≤ seat_entries_before w n
+seat_entries_end w r zero less = absurd (omega arith)
+seat_entries_end w r (suc n) less =
+    let more : seat_entries_before w (suc n) ≡ seat_entries_before w n + seat_entries w n = ap (seat_entries_before w) (let e : suc n ≡ n + 1 = omega arith in e) ∙ seat_entries_before-suc w n in
+    elim (cases_eq r n) [
+      | inl same ↦ let e : seat_entries_before w (r + 1) ≡ seat_entries_before w (suc n) = ap (seat_entries_before w) (let e : r + 1 ≡ suc n = omega (arith, same) in e) in omega (arith, e)
+      | inr other ↦ let deep = seat_entries_end w r n (omega (arith, less, other)) in omega (arith, more, deep)
+    ]
 
 -- the lists of one reviewer's seats
 abbrev length_at : Written → (ℕ × ℕ) → ℕ

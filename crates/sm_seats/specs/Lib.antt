@@ -15,3 +15,6 @@ pub mod Tables
 pub mod ProposerRows
 pub mod ReviewerRows
 pub mod Plain
+pub mod PlaceWeights
+pub mod Levels
+pub mod ShownNet

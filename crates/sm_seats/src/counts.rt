@@ -1,15 +1,15 @@
 //! How many seats each reviewer has, and where they begin.
 
-ghost use Rattle.std.specs.Prelude.{◌≡◌, ◌+◌, ◌<◌, ◌≤◌, length, IfOk, IfErr, OnOk};
-ghost use Rattle.std.specs.List.{range_with_len};
-ghost use Rattle.sm_text.specs.Limits.{most_agents};
+ghost use Rattle.std.specs.Prelude.{◌≡◌, ◌<◌, ◌≤◌, length, IfOk, IfErr, OnOk, IsTrue, MatchOption};
 ghost use Rattle.sm_instance.specs.Sound.{IsInstance};
-ghost use Rattle.sm_seats.specs.Mutual.{mutual_row};
-ghost use Rattle.sm_seats.specs.Counted.{AreSeatCounts};
-ghost use Rattle.sm_seats.specs.SeatEntries.{AreFewSeats, IsSeatsFault};
+ghost use Rattle.sm_seats.specs.SeatMarket.{seat_count};
+ghost use Rattle.sm_seats.specs.Counted.{AreSeatCounts, first_seats_of};
+ghost use Rattle.sm_seats.specs.SeatEntries.{AreFewSeats, IsFirstTooMany, IsSeatsFault};
 
+use crate::crossed_instance::CrossedInstance;
+use crate::entry_counts::acceptable_count;
 use crate::faults::SeatsFault;
-use sm_instance::Instance;
+use sm_instance::{CrossSearch, Instance};
 use sm_text::MOST_SEAT_ENTRIES;
 use std::alloc::{AllocError, Global};
 
@@ -18,16 +18,10 @@ use std::alloc::{AllocError, Global};
 pub struct SeatCounts {
     /// The number of the first seat of each reviewer, and behind them how many seats there are.
     pub firsts: Vec<u32>,
-    /// The numbers of all seats, from 0.
-    pub numbers: Vec<u32>,
-    /// How many proposers are acceptable to each reviewer.
-    pub acceptable: Vec<u32>,
-    /// How many entries the lists of all seats have.
-    pub entries: u32,
 }
 
-/// Counts the seats, and the acceptable proposers of each reviewer. Takes time in proportion to the agents and the entries of
-/// the reviewers, and memory in proportion to the reviewers and seats.
+/// Counts the seats. Takes time in proportion to the agents and the entries, and memory in proportion to the reviewers. Where
+/// the lists of the seats might have too many entries, and the instance keeps no cross places, these are made on the way.
 ///
 /// # Errors
 ///
@@ -38,54 +32,113 @@ pub fn seat_counts(alloc: Global, instance: &Instance) -> Result<SeatCounts, Sea
     ensures few { OnOk result (AreFewSeats instance.now) }
     ensures fault { IfErr result (λ f. IsSeatsFault instance.now f) }
 {
-    let reviewers = instance.reviewer_count();
-    let mut firsts = Vec::with_capacity(alloc, reviewers as usize + 1)?;
-    let mut counts = Vec::with_capacity(alloc, reviewers as usize)?;
-    let mut seats = 0;
-    let mut entries = 0;
-    for r in 0..reviewers {
-        let acceptable = acceptable_count(instance, r);
-        let count = instance.capacity(r).min(acceptable);
-        firsts.push(seats)?;
-        counts.push(acceptable)?;
-        seats += count;
-        entries += count * acceptable;
-        if entries as usize > MOST_SEAT_ENTRIES {
-            return Err(SeatsFault::TooManySeats(r));
-        }
+    if !are_surely_few(instance) {
+        refuse_too_many(alloc, instance)?;
     }
-    firsts.push(seats)?;
     Ok(SeatCounts {
-        firsts,
-        numbers: numbers_below(alloc, seats)?,
-        acceptable: counts,
-        entries,
+        firsts: first_seats(alloc, instance)?,
     })
 }
 
-/// So many numbers, from 0 on.
-fn numbers_below(alloc: Global, count: u32) -> Result<Vec<u32>, AllocError>
-    ensures { IfOk result (λ numbers. numbers.items ≡ range_with_len 0 count) }
+/// Would the lists of the seats have few enough entries even if no entry were inert?
+fn are_surely_few(instance: &Instance) -> bool
+    ensures instance { IsInstance instance.now }
+    ensures few { IsTrue result → AreFewSeats instance.now }
 {
-    let mut numbers = Vec::with_capacity(alloc, count as usize)?;
-    for number in 0..count {
-        numbers.push(number)?;
+    let mut entries = 0;
+    for r in 0..instance.reviewer_count() {
+        let len = instance.reviewer_len(r);
+        let count = instance.capacity(r).min(len);
+        entries += count * len;
+        if entries as usize > MOST_SEAT_ENTRIES {
+            return false;
+        }
     }
-    Ok(numbers)
+    true
 }
 
-/// How many proposers are acceptable to a reviewer.
-fn acceptable_count(instance: &Instance, r: u32) -> u32
-    requires { r < length instance.now.reviewers }
-    ensures count { result ≡ length (mutual_row instance.now.reviewers instance.now.proposers r) }
-    ensures fits { result ≤ most_agents }
+/// Refuses an instance with too many entries on the lists of the seats.
+fn refuse_too_many(alloc: Global, instance: &Instance) -> Result<(), SeatsFault>
+    ensures few { OnOk result (AreFewSeats instance.now) }
+    ensures fault { IfErr result (λ f. IsSeatsFault instance.now f) }
 {
-    let crosses = instance.reviewer_crosses(r);
+    let crosses = instance.crosses(alloc)?;
+    match first_too_many(&CrossedInstance::of(instance, crosses.get())) {
+        Some(r) => Err(SeatsFault::TooManySeats(r)),
+        None => Ok(()),
+    }
+}
+
+/// The first reviewer with whom the lists of the seats have too many entries; `None` where they are few enough.
+fn first_too_many(instance: &CrossedInstance<'_>) -> Option<u32>
+    ensures { MatchOption result (AreFewSeats instance.now) (IsFirstTooMany instance.now) }
+{
+    let mut entries = 0;
+    for r in 0..instance.reviewer_count() {
+        let acceptable = acceptable_count(instance, r);
+        let count = instance.capacity(r).min(acceptable);
+        entries += count * acceptable;
+        if entries as usize > MOST_SEAT_ENTRIES {
+            return Some(r);
+        }
+    }
+    None
+}
+
+/// The number of the first seat of each reviewer, and behind them how many seats there are.
+fn first_seats(alloc: Global, instance: &Instance) -> Result<Vec<u32>, AllocError>
+    ensures { IfOk result (λ firsts. firsts.items ≡ first_seats_of instance.now) }
+{
+    let mut firsts = Vec::with_capacity(alloc, instance.reviewer_count() as usize + 1)?;
+    let mut search = CrossSearch::new(instance);
+    let added = add_first_seats(alloc, instance, &mut search, &mut firsts);
+    drop(search);
+    added?;
+    Ok(firsts)
+}
+
+/// Adds these numbers, by cross places that are looked for one by one.
+fn add_first_seats(
+    alloc: Global,
+    instance: &Instance,
+    search: &mut CrossSearch<'_>,
+    firsts: &mut Vec<u32>,
+) -> Result<(), AllocError>
+    requires searched { search.old ≡ instance.now }
+    requires none { length firsts.old.items ≡ 0 }
+    ensures { OnOk result (firsts.new.items ≡ first_seats_of instance.now) }
+{
+    let mut seats = 0;
+    for r in 0..instance.reviewer_count() {
+        firsts.push(seats)?;
+        seats += seats_at(alloc, instance, search, r)?;
+    }
+    firsts.push(seats)?;
+    Ok(())
+}
+
+/// How many seats a reviewer has: as many as places, but no more than acceptable proposers. No more of these are looked for.
+fn seats_at(
+    alloc: Global,
+    instance: &Instance,
+    search: &mut CrossSearch<'_>,
+    r: u32,
+) -> Result<u32, AllocError>
+    requires in_range { r < length instance.now.reviewers }
+    requires searched { search.old ≡ instance.now }
+    ensures same { search.new ≡ search.old }
+    ensures seats { IfOk result (λ seats. seats ≡ seat_count instance.now r) }
+    ensures fits { IfOk result (λ seats. seats ≤ 4096) }
+{
+    let capacity = instance.capacity(r);
     let mut count = 0;
-    for place in 0..instance.reviewer_len(r) as usize {
-        if crosses[place].place().is_some() {
+    for place in 0..instance.reviewer_len(r) {
+        if count == capacity {
+            return Ok(count);
+        }
+        if search.cross_back(alloc, r, place)?.is_some() {
             count += 1;
         }
     }
-    count
+    Ok(count)
 }

@@ -6,7 +6,7 @@ ghost use Rattle.sm_instance.specs.Written.{row};
 ghost use Rattle.sm_seats.specs.Tables.{mutual_before, mutual_places_at, inert_places_at, inert_places_of, seat_places_at, seat_places_of};
 ghost use Rattle.sm_seats.specs.Counted.{acceptable_of, acceptable_at, first_seats_of};
 
-use sm_instance::Instance;
+use crate::crossed_instance::CrossedInstance;
 use sm_lists::Rows;
 use std::alloc::{AllocError, Global};
 
@@ -14,7 +14,7 @@ use std::alloc::{AllocError, Global};
 /// without inert entries has no table of them.
 pub(crate) fn mutual_places(
     alloc: Global,
-    instance: &Instance,
+    instance: &CrossedInstance<'_>,
     acceptable: &[u32],
 ) -> Result<Rows, AllocError>
     requires { acceptable.now ≡ acceptable_of instance.now }
@@ -32,7 +32,7 @@ pub(crate) fn mutual_places(
 /// Writes the same for one reviewer, with so many acceptable proposers.
 fn write_inert_places(
     places: &mut Vec<u32>,
-    instance: &Instance,
+    instance: &CrossedInstance<'_>,
     r: u32,
     acceptable: u32,
 ) -> Result<(), AllocError>
@@ -48,7 +48,7 @@ fn write_inert_places(
 }
 
 /// How many acceptable proposers stand before a place of a reviewer's written list, from these tables.
-pub(crate) fn mutual_place(instance: &Instance, places: &Rows, r: u32, place: u32) -> u32
+pub(crate) fn mutual_place(instance: &CrossedInstance<'_>, places: &Rows, r: u32, place: u32) -> u32
     requires places { places.now ≡ inert_places_of instance.now }
     requires in_range { r < length instance.now.reviewers }
     requires on_list { place < length (row instance.now.reviewers r) }
@@ -64,7 +64,11 @@ pub(crate) fn mutual_place(instance: &Instance, places: &Rows, r: u32, place: u3
 }
 
 /// Writes how many acceptable proposers stand before each place of a reviewer's written list.
-fn write_mutual_places(places: &mut Vec<u32>, instance: &Instance, r: u32) -> Result<(), AllocError>
+fn write_mutual_places(
+    places: &mut Vec<u32>,
+    instance: &CrossedInstance<'_>,
+    r: u32,
+) -> Result<(), AllocError>
     requires { r < length instance.now.reviewers }
     ensures { OnOk result (places.new.items ≡ mutual_places_at instance.now r) }
 {
@@ -83,7 +87,7 @@ fn write_mutual_places(places: &mut Vec<u32>, instance: &Instance, r: u32) -> Re
 /// how many it lists at all.
 pub(crate) fn seat_places(
     alloc: Global,
-    instance: &Instance,
+    instance: &CrossedInstance<'_>,
     firsts: &[u32],
 ) -> Result<Rows, AllocError>
     requires { firsts.now ≡ first_seats_of instance.now }
@@ -103,7 +107,7 @@ pub(crate) fn seat_places(
 /// Writes how many seats a proposer lists before those of the reviewer at each place, and at all.
 fn write_seat_places(
     places: &mut Vec<u32>,
-    instance: &Instance,
+    instance: &CrossedInstance<'_>,
     firsts: &[u32],
     p: u32,
 ) -> Result<(), AllocError>
@@ -128,7 +132,7 @@ fn write_seat_places(
 }
 
 /// How many entries the proposers' written lists have.
-pub(crate) fn written_entries(instance: &Instance) -> usize
+pub(crate) fn written_entries(instance: &CrossedInstance<'_>) -> usize
     ensures { IsInstance instance.now }
 {
     let mut entries: usize = 0;

@@ -12,16 +12,17 @@ ghost use Rattle.sm_seats.specs.ProposerRows.{seat_rows_of, cross_rows_of};
 ghost use Rattle.sm_seats.specs.ReviewerRows.{seat_lists_before, seat_crosses_before};
 ghost use Rattle.sm_seats.specs.Plain.{HasOneSeat, IsPlain, places_in};
 
-use crate::counts::SeatCounts;
+use crate::crossed_instance::CrossedInstance;
+use crate::entry_counts::EntryCounts;
 use crate::proposer_rows::ProposerRows;
 use crate::reviewer_rows::ReviewerRows;
-use sm_instance::{Cross, Instance};
+use sm_instance::Cross;
 use sm_lists::{RaisedRows, Rows};
 use std::alloc::{AllocError, Global};
 
 /// Is the instance such a one? Takes time in proportion to the entries.
-pub(crate) fn is_plain(instance: &Instance, counts: &SeatCounts) -> bool
-    requires firsts { counts.now.firsts.items ≡ first_seats_of instance.now }
+pub(crate) fn is_plain(instance: &CrossedInstance<'_>, counts: &EntryCounts<'_>) -> bool
+    requires firsts { counts.now.firsts.now ≡ first_seats_of instance.now }
     requires acceptable { counts.now.acceptable.items ≡ acceptable_of instance.now }
     ensures { IsTrue result ↔ IsPlain instance.now }
 {
@@ -29,8 +30,8 @@ pub(crate) fn is_plain(instance: &Instance, counts: &SeatCounts) -> bool
 }
 
 /// Have all reviewers one seat and no inert entries?
-fn have_one_seat(instance: &Instance, counts: &SeatCounts) -> bool
-    requires firsts { counts.now.firsts.items ≡ first_seats_of instance.now }
+fn have_one_seat(instance: &CrossedInstance<'_>, counts: &EntryCounts<'_>) -> bool
+    requires firsts { counts.now.firsts.now ≡ first_seats_of instance.now }
     requires acceptable { counts.now.acceptable.items ≡ acceptable_of instance.now }
     ensures { IsTrue result ↔ ((r : ℕ) → r < length instance.now.reviewers
         → HasOneSeat instance.now r) }
@@ -44,13 +45,13 @@ fn have_one_seat(instance: &Instance, counts: &SeatCounts) -> bool
 }
 
 /// Has a reviewer one seat and no inert entries?
-fn has_one_seat(instance: &Instance, counts: &SeatCounts, r: u32) -> bool
+fn has_one_seat(instance: &CrossedInstance<'_>, counts: &EntryCounts<'_>, r: u32) -> bool
     requires in_range { r < length instance.now.reviewers }
-    requires firsts { counts.now.firsts.items ≡ first_seats_of instance.now }
+    requires firsts { counts.now.firsts.now ≡ first_seats_of instance.now }
     requires acceptable { counts.now.acceptable.items ≡ acceptable_of instance.now }
     ensures { IsTrue result ↔ HasOneSeat instance.now r }
 {
-    let firsts = counts.firsts.as_slice();
+    let firsts = counts.firsts;
     let acceptable = counts.acceptable.as_slice();
     let count = firsts[r as usize + 1] - firsts[r as usize];
     if count != 1 {
@@ -60,7 +61,7 @@ fn has_one_seat(instance: &Instance, counts: &SeatCounts, r: u32) -> bool
 }
 
 /// Have all proposers no inert entries?
-fn have_whole_lists(instance: &Instance) -> bool
+fn have_whole_lists(instance: &CrossedInstance<'_>) -> bool
     ensures { IsTrue result ↔ ((p : ℕ) → p < length instance.now.proposers
         → mutual_row instance.now.proposers instance.now.reviewers p
         ≡ row instance.now.proposers p) }
@@ -74,7 +75,7 @@ fn have_whole_lists(instance: &Instance) -> bool
 }
 
 /// How many reviewers are acceptable to a proposer.
-fn acceptable_count(instance: &Instance, p: u32) -> u32
+fn acceptable_count(instance: &CrossedInstance<'_>, p: u32) -> u32
     requires { p < length instance.now.proposers }
     ensures { result ≡ length (mutual_row instance.now.proposers instance.now.reviewers p) }
 {
@@ -91,7 +92,7 @@ fn acceptable_count(instance: &Instance, p: u32) -> u32
 /// The lists of all proposers, with room for so many entries.
 pub(crate) fn plain_proposers(
     alloc: Global,
-    instance: &Instance,
+    instance: &CrossedInstance<'_>,
     room: usize,
 ) -> Result<ProposerRows, AllocError>
     requires { IsPlain instance.now }
@@ -117,7 +118,7 @@ pub(crate) fn plain_proposers(
 /// The lists of all seats, with room for so many entries.
 pub(crate) fn plain_seats(
     alloc: Global,
-    instance: &Instance,
+    instance: &CrossedInstance<'_>,
     room: usize,
 ) -> Result<ReviewerRows, AllocError>
     requires { IsPlain instance.now }

@@ -7,9 +7,9 @@ ghost use Rattle.sm_seats.specs.Counted.{seat_numbers_of, first_seats_of};
 ghost use Rattle.sm_seats.specs.SeatMarket.{seat_row};
 ghost use Rattle.sm_seats.specs.ProposerRows.{seat_rows_of, cross_rows_of};
 
-use crate::counts::SeatCounts;
+use crate::crossed_instance::CrossedInstance;
+use crate::entry_counts::EntryCounts;
 use crate::places::mutual_place;
-use sm_instance::Instance;
 use sm_lists::{RaisedRows, Rows};
 use std::alloc::{AllocError, Global};
 
@@ -31,12 +31,12 @@ struct ProposerRow {
 /// the seats of each reviewer begin.
 pub(crate) fn proposer_rows(
     alloc: Global,
-    instance: &Instance,
-    counts: &SeatCounts,
+    instance: &CrossedInstance<'_>,
+    counts: &EntryCounts<'_>,
     places: &Rows,
     begins: &Rows,
 ) -> Result<ProposerRows, AllocError>
-    requires firsts { counts.now.firsts.items ≡ first_seats_of instance.now }
+    requires firsts { counts.now.firsts.now ≡ first_seats_of instance.now }
     requires numbers { counts.now.numbers.items ≡ seat_numbers_of instance.now }
     requires places { places.now ≡ inert_places_of instance.now }
     requires begins { begins.now ≡ seat_places_of instance.now }
@@ -64,14 +64,14 @@ pub(crate) fn proposer_rows(
 /// Writes the lists of one proposer.
 fn write_row(
     row: &mut ProposerRow,
-    instance: &Instance,
+    instance: &CrossedInstance<'_>,
     p: u32,
-    counts: &SeatCounts,
+    counts: &EntryCounts<'_>,
     places: &Rows,
     begins: &Rows,
 ) -> Result<(), AllocError>
     requires in_range { p < length instance.now.proposers }
-    requires firsts { counts.now.firsts.items ≡ first_seats_of instance.now }
+    requires firsts { counts.now.firsts.now ≡ first_seats_of instance.now }
     requires numbers { counts.now.numbers.items ≡ seat_numbers_of instance.now }
     requires places { places.now ≡ inert_places_of instance.now }
     requires begins { begins.now ≡ seat_places_of instance.now }
@@ -89,13 +89,13 @@ fn write_row(
 fn fill_row(
     list: &mut [u32],
     crosses: &mut [u32],
-    instance: &Instance,
+    instance: &CrossedInstance<'_>,
     p: u32,
-    counts: &SeatCounts,
+    counts: &EntryCounts<'_>,
     places: &Rows,
 )
     requires in_range { p < length instance.now.proposers }
-    requires firsts { counts.now.firsts.items ≡ first_seats_of instance.now }
+    requires firsts { counts.now.firsts.now ≡ first_seats_of instance.now }
     requires numbers { counts.now.numbers.items ≡ seat_numbers_of instance.now }
     requires places { places.now ≡ inert_places_of instance.now }
     requires list_room { length list.old
@@ -104,7 +104,7 @@ fn fill_row(
     ensures list { list.new ≡ seat_row instance.now p }
     ensures crosses { crosses.new ≡ cross_row instance.now p }
 {
-    let firsts = counts.firsts.as_slice();
+    let firsts = counts.firsts;
     let numbers = counts.numbers.as_slice();
     let written = instance.proposer_list(p);
     let written_crosses = instance.proposer_crosses(p);

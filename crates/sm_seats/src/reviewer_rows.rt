@@ -10,8 +10,8 @@ ghost use Rattle.sm_seats.specs.Tables.{seat_places_of, begin_of};
 ghost use Rattle.sm_seats.specs.Counted.{acceptable_of, acceptable_at, first_seats_of};
 ghost use Rattle.sm_seats.specs.ReviewerRows.{seat_lists_before, seat_crosses_before};
 
-use crate::counts::SeatCounts;
-use sm_instance::Instance;
+use crate::crossed_instance::CrossedInstance;
+use crate::entry_counts::EntryCounts;
 use sm_lists::{RaisedRows, Rows};
 use std::alloc::{AllocError, Global};
 
@@ -28,11 +28,11 @@ pub(crate) struct ReviewerRows {
 /// The lists of all seats, from what is counted of them, and the places where the seats of each reviewer begin.
 pub(crate) fn reviewer_rows(
     alloc: Global,
-    instance: &Instance,
-    counts: &SeatCounts,
+    instance: &CrossedInstance<'_>,
+    counts: &EntryCounts<'_>,
     begins: &Rows,
 ) -> Result<ReviewerRows, AllocError>
-    requires firsts { counts.now.firsts.items ≡ first_seats_of instance.now }
+    requires firsts { counts.now.firsts.now ≡ first_seats_of instance.now }
     requires acceptable { counts.now.acceptable.items ≡ acceptable_of instance.now }
     requires begins { begins.now ≡ seat_places_of instance.now }
     ensures seats { IfOk result (λ rows. rows.seats.items ≡ seats_of instance.now) }
@@ -41,7 +41,7 @@ pub(crate) fn reviewer_rows(
     ensures crosses { IfOk result
         (λ rows. rows.crosses ≡ seat_crosses_before instance.now (length instance.now.reviewers)) }
 {
-    let firsts = counts.firsts.as_slice();
+    let firsts = counts.firsts;
     let acceptable = counts.acceptable.as_slice();
     let reviewers = instance.reviewer_count();
     let count = firsts[reviewers as usize] as usize;
@@ -96,7 +96,7 @@ fn add_names(seats: &mut Vec<(u32, u32)>, r: u32, count: u32) -> Result<(), Allo
 /// what is written into `row` where some entries of it are inert.
 fn add_lists(
     lists: &mut Rows,
-    instance: &Instance,
+    instance: &CrossedInstance<'_>,
     r: u32,
     acceptable: u32,
     count: u32,
@@ -115,7 +115,11 @@ fn add_lists(
 }
 
 /// Writes the list of a reviewer without inert entries.
-fn write_without_inert(kept: &mut Vec<u32>, instance: &Instance, r: u32) -> Result<(), AllocError>
+fn write_without_inert(
+    kept: &mut Vec<u32>,
+    instance: &CrossedInstance<'_>,
+    r: u32,
+) -> Result<(), AllocError>
     requires in_range { r < length instance.now.reviewers }
     ensures { OnOk result
         (kept.new.items ≡ mutual_row instance.now.reviewers instance.now.proposers r) }
@@ -134,7 +138,7 @@ fn write_without_inert(kept: &mut Vec<u32>, instance: &Instance, r: u32) -> Resu
 /// Writes where the seats of a reviewer begin on the list of each acceptable proposer.
 fn write_begins(
     kept: &mut Vec<u32>,
-    instance: &Instance,
+    instance: &CrossedInstance<'_>,
     r: u32,
     begins: &Rows,
 ) -> Result<(), AllocError>

@@ -14,11 +14,14 @@ ghost use Rattle.sm_seats.specs.SeatEntries.{AreFewSeats, IsSeatsFault};
 ghost use Rattle.sm_seats.specs.Seating.{seating_of, written_place, written_of, levels_at, levels_of};
 ghost use Rattle.sm_seats.specs.Taken.{places_taken};
 ghost use Rattle.sm_seats.specs.Correspondence.{IsSeating};
-ghost use Rattle.sm_seats.specs.Counted.{AreSeatCounts};
+ghost use Rattle.sm_seats.specs.Counted.{AreSeatCounts, AreEntryCounts, first_seats_of};
+ghost use Rattle.sm_seats.specs.Plain.{IsPlain};
 ghost use Rattle.sm_seats.specs.ProposerRows.{seat_rows_of, cross_rows_of};
 ghost use Rattle.sm_seats.specs.ReviewerRows.{seat_lists_before, seat_crosses_before};
 
 use crate::counts::{SeatCounts, seat_counts};
+use crate::crossed_instance::CrossedInstance;
+use crate::entry_counts::{EntryCounts, entry_counts};
 use crate::faults::SeatsFault;
 use crate::levels::{levels_along, place_from};
 use crate::places::{mutual_places, seat_places, written_entries};
@@ -94,18 +97,11 @@ impl Seats {
         ensures seats { IfOk result (λ seats. seats ≡ seating_of instance.now) }
         ensures seating { IfOk result (λ seats. IsSeating instance.now seats) }
     {
-        if is_plain(instance, counts) {
-            let room = counts.entries as usize;
-            let proposers = plain_proposers(alloc, instance, room)?;
-            let reviewers = plain_seats(alloc, instance, room)?;
-            return seats_held(alloc, instance, None, proposers, reviewers);
-        }
-        let places = mutual_places(alloc, instance, &counts.acceptable)?;
-        let begins = seat_places(alloc, instance, &counts.firsts)?;
-        let proposers = proposer_rows(alloc, instance, counts, &places, &begins)?;
-        let reviewers = reviewer_rows(alloc, instance, counts, &begins)?;
-        let lists = written_lists(alloc, instance)?;
-        seats_held(alloc, instance, Some(lists), proposers, reviewers)
+        let crosses = instance.crosses(alloc)?;
+        let crossed = CrossedInstance::of(instance, crosses.get());
+        let seats = seats_by(alloc, &crossed, &counts.firsts);
+        drop(crosses);
+        seats
     }
 
     /// The market of the seats: its proposers are those of the instance, and its reviewers the seats, both from 0. Its lists
@@ -229,10 +225,66 @@ impl Seats {
     }
 }
 
+/// The seats of an instance, by its first seats.
+fn seats_by(
+    alloc: Global,
+    instance: &CrossedInstance<'_>,
+    firsts: &[u32],
+) -> Result<Seats, AllocError>
+    requires firsts { firsts.now ≡ first_seats_of instance.now }
+    requires few { AreFewSeats instance.now }
+    ensures seats { IfOk result (λ seats. seats ≡ seating_of instance.now) }
+    ensures seating { IfOk result (λ seats. IsSeating instance.now seats) }
+{
+    let counts = entry_counts(alloc, instance, firsts)?;
+    let seats = if is_plain(instance, &counts) {
+        plain_market_seats(alloc, instance, counts.entries as usize)
+    } else {
+        seats_of_counts(alloc, instance, &counts)
+    };
+    drop(counts);
+    seats
+}
+
+/// The seats of an instance in which each reviewer has one seat and no entry is inert, with room for so many entries.
+fn plain_market_seats(
+    alloc: Global,
+    instance: &CrossedInstance<'_>,
+    room: usize,
+) -> Result<Seats, AllocError>
+    requires plain { IsPlain instance.now }
+    requires few { AreFewSeats instance.now }
+    ensures seats { IfOk result (λ seats. seats ≡ seating_of instance.now) }
+    ensures seating { IfOk result (λ seats. IsSeating instance.now seats) }
+{
+    let proposers = plain_proposers(alloc, instance, room)?;
+    let reviewers = plain_seats(alloc, instance, room)?;
+    seats_held(alloc, instance, None, proposers, reviewers)
+}
+
+/// The seats of any instance, by what is counted of them.
+fn seats_of_counts(
+    alloc: Global,
+    instance: &CrossedInstance<'_>,
+    counts: &EntryCounts<'_>,
+) -> Result<Seats, AllocError>
+    requires counts { AreEntryCounts instance.now counts.now }
+    requires few { AreFewSeats instance.now }
+    ensures seats { IfOk result (λ seats. seats ≡ seating_of instance.now) }
+    ensures seating { IfOk result (λ seats. IsSeating instance.now seats) }
+{
+    let places = mutual_places(alloc, instance, &counts.acceptable)?;
+    let begins = seat_places(alloc, instance, counts.firsts)?;
+    let proposers = proposer_rows(alloc, instance, counts, &places, &begins)?;
+    let reviewers = reviewer_rows(alloc, instance, counts, &begins)?;
+    let lists = written_lists(alloc, instance)?;
+    seats_held(alloc, instance, Some(lists), proposers, reviewers)
+}
+
 /// The seats with these lists, beside the lists that the proposers wrote where these differ from those of the market.
 fn seats_held(
     alloc: Global,
-    instance: &Instance,
+    instance: &CrossedInstance<'_>,
     beside: Option<Rows>,
     proposers: ProposerRows,
     reviewers: ReviewerRows,
@@ -269,7 +321,7 @@ fn seats_held(
 }
 
 /// The proposers' written lists.
-fn written_lists(alloc: Global, instance: &Instance) -> Result<Rows, AllocError>
+fn written_lists(alloc: Global, instance: &CrossedInstance<'_>) -> Result<Rows, AllocError>
     ensures instance { IsInstance instance.now }
     ensures lists { IfOk result (λ lists. lists ≡ lists_of instance.now.proposers) }
 {

@@ -11,15 +11,16 @@ ghost use Rattle.sm_seats.specs.Counted.{AreSeatCounts};
 ghost use Rattle.sm_seats.specs.SeatEntries.{AreFewSeats, first_too_many};
 ghost use Rattle.sm_instance.specs.declared.inputs.Input.TheVariants.{Two};
 ghost use Rattle.sm_top.specs.Stops.{StopsBy};
+ghost use Rattle.sm_top.specs.declared.stop.Stop.{Stop};
 ghost use Rattle.sm_words.specs.Jobs.{job_of};
 
 use crate::stop::Stop;
-use sm_instance::Instance;
+use sm_instance::{Input, Instance, Side};
 use sm_reader::{Read, TextFault, read_instance};
 use sm_seats::{SeatCounts, SeatsFault, seat_counts};
 use sm_text::{RefusalKind, TokenAt, line_at, token_at};
 use sm_words::{Job, takes_text};
-use std::alloc::Global;
+use std::alloc::{AllocError, Global};
 
 /// Reads an input for a job, where it isn't refused before its kind and its seats are looked at.
 pub(crate) fn read_for(alloc: Global, job: &Job, bytes: &[u8]) -> Result<Read, Stop>
@@ -33,11 +34,41 @@ pub(crate) fn read_for(alloc: Global, job: &Job, bytes: &[u8]) -> Result<Read, S
     match read_instance(alloc, bytes) {
         Ok(read) => match text_behind(job, bytes, &read) {
             Some(line) => Err(Stop::Refused(RefusalKind::AfterEnd, line)),
-            None => Ok(read),
+            None => kept_for(job, bytes, read),
         },
         Err(TextFault::Refused(kind, at)) => Err(Stop::Refused(kind, at)),
         Err(TextFault::OutOfMemory) => Err(Stop::OutOfMemory),
     }
+}
+
+/// What was read, with what its input keeps for a job.
+fn kept_for(job: &Job, bytes: &[u8], mut read: Read) -> Result<Read, Stop>
+    ensures read { IfOk result (λ kept. read_of kept ≡ read_of read) }
+    ensures stop { IfErr result (λ stop. stop ≡ Stop.OutOfMemory) }
+{
+    match keep_for(job, bytes, &mut read.input) {
+        Ok(()) => Ok(read),
+        Err(_) => {
+            drop(read);
+            Err(Stop::OutOfMemory)
+        }
+    }
+}
+
+/// Lets an input keep what a job looks up again and again: cross places, without which `export` and `solve` for the proposers
+/// do, and names where there is text behind `end`.
+fn keep_for(job: &Job, bytes: &[u8], input: &mut Input) -> Result<(), AllocError>
+    ensures { input.new ≡ input.old }
+{
+    match job {
+        Job::Export | Job::Solve(None) | Job::Solve(Some(Side::Proposers)) => return Ok(()),
+        _ => (),
+    }
+    input.keep_crosses()?;
+    if takes_text(job) {
+        input.keep_names()?;
+    }
+    Ok(())
 }
 
 /// What is counted of the seats of an instance, where they aren't too many.

@@ -7,7 +7,7 @@ use Rattle.std.proofs.Common.{Vec}
 use Rattle.sm_instance.specs.Ranks.{worse_rank}
 use Rattle.sm_market.specs.Vectors.{rows_of}
 use Rattle.sm_seats.specs.Seating.{at_places}
-use Rattle.sm_placed.proofs.PlaceLemmas.{are_acceptable}
+use Rattle.sm_seats.proofs.PlaceLemmas.{are_acceptable}
 use Rattle.sm_answer_pairs.proofs.regret.worse_ranks.Goals as goal
 
 pub ranks_of-requires-clause-acceptable : goal.ranks_of-requires-clause-acceptable

@@ -1,4 +1,4 @@
-use Rattle.std.proofs.Common.{◌≡◌, ℕ, ◌+◌, length, replicate, rules, sym, ap, subst, ◌∙◌, arith}
+use Rattle.std.proofs.Common.{◌≡◌, ℕ, ◌+◌, length, replicate, rules, refl, sym, ap, subst, ◌∙◌, arith}
 use Rattle.std.proofs.lemmas.List.FromFn.{length-map-range_with_len}
 use Rattle.sm_instance.specs.Stable.{IsProposersBest}
 use Rattle.sm_seats.specs.SeatMarket.{seats_before}
@@ -13,14 +13,12 @@ bounds-firsts-reviewer_count c =
     let long = ap length (c.as_slice-firsts.ensures.value ∙ c.requires.firsts) ∙ length-map-range_with_len (seats_before w) 0 (length w.reviewers + 1) in
     omega (arith, long, c.reviewer_count.ensures.count)
 
-pub loop-p-init : goal.loop-p-init
-loop-p-init c =
+pub let_all_propose-requires-clause-none : goal.let_all_propose-requires-clause-none
+let_all_propose-requires-clause-none c =
     let zero : ℕ = 0 in
     let count = c.proposer_count.ensures.count in
     let is : c.as_mut_slice-places.result.now ≡ replicate (length c.args.instance.now.proposers) zero = rw (← count) (search rules) in
-    way_start (sound_entries c.reviewer_count.ensures.instance) _ _ is c.free_seats.ensures
+    is
 
 pub returns : goal.returns
-returns c =
-    let all : c.loop-p.p ≡ length c.args.instance.now.proposers = omega (arith, c.loop-p-test.false, c.proposer_count-p-end.ensures.count) in
-    subst (IsProposersBest c.args.instance.now) (sym c.in_ok-ends.ensures) (best_ends c.reviewer_count.ensures.instance c.loop-p.invariant all)
+returns c = subst (IsProposersBest c.args.instance.now) (sym c.in_ok-ends.ensures) (best_ends c.reviewer_count.ensures.instance c.in_ok-let_all_propose.ensures refl)

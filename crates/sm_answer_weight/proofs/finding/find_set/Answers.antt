@@ -5,11 +5,11 @@ use Rattle.sm_instance.specs.Ranks.{pair_weight}
 use Rattle.sm_market.specs.Lists.{Lists}
 use Rattle.sm_weight.specs.Sizes.{weights_in}
 use Rattle.sm_answer_rotations.proofs.ConditionLemmas.{forced_named, forbidden_named}
-use Rattle.sm_placed.specs.Levels.{pair_second_by, seconds_by}
-use Rattle.sm_placed.specs.PlaceWeights.{AreLight}
-use Rattle.sm_placed.proofs.PlaceLemmas.{are_weights}
-use Rattle.sm_placed.proofs.LevelLemmas.{none_second}
-use Rattle.sm_placed.proofs.SecondLemmas.{gain_none}
+use Rattle.sm_seats.specs.Levels.{pair_second_by, seconds_by}
+use Rattle.sm_seats.specs.PlaceWeights.{AreLight}
+use Rattle.sm_seats.proofs.PlaceLemmas.{are_weights}
+use Rattle.sm_seats.proofs.LevelLemmas.{none_second}
+use Rattle.sm_seats.proofs.SecondLemmas.{gain_none}
 use Rattle.sm_answer_weight.proofs.SizeLemmas.{light_seconds}
 use Rattle.sm_answer_weight.proofs.finding.find_set.Goals as goal
 

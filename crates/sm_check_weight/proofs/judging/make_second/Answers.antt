@@ -5,7 +5,7 @@ use Rattle.sm_theory.specs.Sizes.{weights_in, AreWeights}
 use Rattle.sm_theory.specs.Weights.{gain_of}
 use Rattle.sm_check_net.specs.Moves.{moves_in, AreMovesByRotation}
 use Rattle.sm_seats.specs.SeatMarket.{seat_market}
-use Rattle.sm_placed.specs.Levels.{has_two_levels}
+use Rattle.sm_seats.specs.Levels.{has_two_levels}
 use Rattle.sm_check_clauses.specs.Said.{rotations_in}
 use Rattle.sm_check_clauses.specs.Walks.{AreChainMoves}
 use Rattle.sm_check_weight.proofs.MoveLemmas.{can_be_weighed}

@@ -3,10 +3,11 @@ use Rattle.std.specs.List.{All}
 use Rattle.std.specs.Int.RustNames.{unsigned_abs}
 use Rattle.std.proofs.lemmas.List.{length-map}
 use Rattle.sm_text.specs.Limits.{most_weight}
-use Rattle.sm_instance.specs.Sound.{items_of, is_single, IsSoundItem, AreSoundAgents, AreSoundEntries, IsEachOnce}
+use Rattle.sm_instance.specs.Sound.{items_of, is_single, IsSoundItem, AreSoundAgents, AreSoundEntries}
+use Rattle.sm_lists.specs.EachOnce.{IsEachOnce}
 use Rattle.sm_instance.specs.Vectors.{agents_of}
 use Rattle.sm_instance.proofs.AgentLemmas.{length-agents}
-use Rattle.sm_instance.proofs.OrderLemmas.{range_is_each_once}
+use Rattle.sm_lists.proofs.OrderLemmas.{range_is_each_once}
 use Rattle.sm_instance.proofs.SecondLemmas.{zeros_small}
 use Rattle.sm_instance.proofs.checks.checked.Goals as goal
 

@@ -42,7 +42,7 @@ write_namings-requires-clause-by g c = λ e l.
     let items = c.at.result.now in
     let many = length-map c.args.others.now (λ list. list.now) in
     let named : AreNamingsOf rows (length rows) 0 c.loop-b.b (map g.N.KeptNaming.kept items) =
-    namings_read g.N.KeptNaming.kept c.in_ok-namings.namings c.loop-b.b items c.in_ok-namings.ensures (omega arith) c.at.ensures in
+    namings_read g.N.KeptNaming.kept c.args.namings.now c.loop-b.b items c.requires.namings (omega arith) c.at.ensures in
     let long = length-map items g.N.KeptNaming.kept in
     let x = naming_at (map g.N.KeptNaming.kept items) e in
     let in_range = row_in_range rows x.by x.place (named.on_list e (omega arith)) in
@@ -56,7 +56,7 @@ write_namings-requires-clause-on_list g c = λ e l.
     let items = c.at.result.now in
     let many = length-map c.args.others.now (λ list. list.now) in
     let named : AreNamingsOf rows (length rows) 0 c.loop-b.b (map g.N.KeptNaming.kept items) =
-    namings_read g.N.KeptNaming.kept c.in_ok-namings.namings c.loop-b.b items c.in_ok-namings.ensures (omega arith) c.at.ensures in
+    namings_read g.N.KeptNaming.kept c.args.namings.now c.loop-b.b items c.requires.namings (omega arith) c.at.ensures in
     let long = length-map items g.N.KeptNaming.kept in
     let x = naming_at (map g.N.KeptNaming.kept items) e in
     let on = named.on_list e (omega arith) in
@@ -69,7 +69,7 @@ write_namings-requires-clause-places_fit g c = λ e l.
     let items = c.at.result.now in
     let many = length-map c.args.others.now (λ list. list.now) in
     let named : AreNamingsOf rows (length rows) 0 c.loop-b.b (map g.N.KeptNaming.kept items) =
-    namings_read g.N.KeptNaming.kept c.in_ok-namings.namings c.loop-b.b items c.in_ok-namings.ensures (omega arith) c.at.ensures in
+    namings_read g.N.KeptNaming.kept c.args.namings.now c.loop-b.b items c.requires.namings (omega arith) c.at.ensures in
     let long = length-map items g.N.KeptNaming.kept in
     let x = naming_at (map g.N.KeptNaming.kept items) e in
     let on = named.on_list e (omega arith) in
@@ -122,7 +122,7 @@ loop-b-preserved g c =
     let many = length-map c.args.others.now (λ list. list.now) in
     let all = length-map c.args.rows.now (λ list. list.now) in
     let named : AreNamingsOf rows (length rows) 0 b (map g.N.KeptNaming.kept items) =
-    namings_read g.N.KeptNaming.kept c.in_ok-namings.namings b items c.in_ok-namings.ensures (omega arith) c.at.ensures in
+    namings_read g.N.KeptNaming.kept c.args.namings.now b items c.requires.namings (omega arith) c.at.ensures in
     let noted : List (Option ℕ) = c.note_list-repeats.new.notes.places in
     let listed_same = c.note_list-repeats.ensures.one_each in
     let listed_long = before.listed_long in

@@ -13,10 +13,10 @@ use Rattle.sm_seats.proofs.proposer_rows.fill_row.Goals as goal
 use Rattle.sm_seats.proofs.proposer_rows.fill_row.Goals.{in-Some, in_default}
 
 pub bounds-firsts-r : goal.bounds-firsts-r
-bounds-firsts-r c = omega (arith, (read_at c.args.instance.now c.args.p c.loop-place.place c.proposer_len-place-end.ensures.instance (c.as_slice-firsts.ensures.value ∙ c.requires.firsts) c.proposer_list-written.ensures (omega (arith, c.loop-place-test.true))).inside)
+bounds-firsts-r c = omega (arith, (read_at c.args.instance.now c.args.p c.loop-place.place c.proposer_len-place-end.ensures.instance c.requires.firsts c.proposer_list-written.ensures (omega (arith, c.loop-place-test.true))).inside)
 
 pub bounds-firsts-r-in-Some : goal.bounds-firsts-r-in-Some
-bounds-firsts-r-in-Some c = (read_at c.args.instance.now c.args.p c.loop-place.place c.proposer_len-place-end.ensures.instance (c.as_slice-firsts.ensures.value ∙ c.requires.firsts) c.proposer_list-written.ensures (omega (arith, c.loop-place-test.true))).inside
+bounds-firsts-r-in-Some c = (read_at c.args.instance.now c.args.p c.loop-place.place c.proposer_len-place-end.ensures.instance c.requires.firsts c.proposer_list-written.ensures (omega (arith, c.loop-place-test.true))).inside
 
 pub mutual_place-cross-requires-clause-in_range : goal.mutual_place-cross-requires-clause-in_range
 mutual_place-cross-requires-clause-in_range c = (named_at c.args.instance.now c.args.p c.loop-place.place c.proposer_len-place-end.ensures.instance c.proposer_list-written.ensures (omega (arith, c.loop-place-test.true))).1
@@ -32,17 +32,17 @@ mutual_place-cross-requires-clause-on_list c =
 
 pub slice_bounds-write_seats-count : goal.slice_bounds-write_seats-count
 slice_bounds-write_seats-count c =
-    let s = (read_at c.args.instance.now c.args.p c.loop-place.place c.proposer_len-place-end.ensures.instance (c.as_slice-firsts.ensures.value ∙ c.requires.firsts) c.proposer_list-written.ensures (omega (arith, c.loop-place-test.true))) in
+    let s = (read_at c.args.instance.now c.args.p c.loop-place.place c.proposer_len-place-end.ensures.instance c.requires.firsts c.proposer_list-written.ensures (omega (arith, c.loop-place-test.true))) in
     omega (arith, s.first, s.next)
 
 pub slice_bounds-write_seats-start : goal.slice_bounds-write_seats-start
 slice_bounds-write_seats-start c =
-    let s = (read_at c.args.instance.now c.args.p c.loop-place.place c.proposer_len-place-end.ensures.instance (c.as_slice-firsts.ensures.value ∙ c.requires.firsts) c.proposer_list-written.ensures (omega (arith, c.loop-place-test.true))) in
+    let s = (read_at c.args.instance.now c.args.p c.loop-place.place c.proposer_len-place-end.ensures.instance c.requires.firsts c.proposer_list-written.ensures (omega (arith, c.loop-place-test.true))) in
     omega (arith, s.first, s.next)
 
 pub slice_bounds-write_seats-end : goal.slice_bounds-write_seats-end
 slice_bounds-write_seats-end c =
-    let s = (read_at c.args.instance.now c.args.p c.loop-place.place c.proposer_len-place-end.ensures.instance (c.as_slice-firsts.ensures.value ∙ c.requires.firsts) c.proposer_list-written.ensures (omega (arith, c.loop-place-test.true))) in
+    let s = (read_at c.args.instance.now c.args.p c.loop-place.place c.proposer_len-place-end.ensures.instance c.requires.firsts c.proposer_list-written.ensures (omega (arith, c.loop-place-test.true))) in
     omega (arith, s.within, length-numbers c.args.instance.now c.as_slice-numbers.result.now (c.as_slice-numbers.ensures.value ∙ c.requires.numbers))
 
 pub loop-place-preserved : goal.loop-place-preserved
@@ -61,9 +61,9 @@ loop-place-preserved c =
       | in-Some b ↦
           let it = crossed_at c.proposer_len-place-end.ensures.instance.proposer_entries on read b.in-Some.is in
           let more = back_more w.proposers w.reviewers p i on it.passes in
-          let s = seats_read w r (c.as_slice-firsts.ensures.value ∙ c.requires.firsts) who.1 in
-          let from : ℕ = get_or c.as_slice-firsts.result.now r 0 in
-          let size : ℕ = get_or c.as_slice-firsts.result.now (r + 1) 0 - from in
+          let s = seats_read w r c.requires.firsts who.1 in
+          let from : ℕ = get_or c.args.counts.now.firsts.now r 0 in
+          let size : ℕ = get_or c.args.counts.now.firsts.now (r + 1) 0 - from in
           let seats : take size (drop from c.as_slice-numbers.result.now) ≡ seats_at w x =
           seats_between w c.as_slice-numbers.result.now r (c.as_slice-numbers.ensures.value ∙ c.requires.numbers) s ∙ ap (seats_at w) who.0 in
           let count = length-range_with_len (seats_before w x) (seat_count w x) in
@@ -103,7 +103,7 @@ write_seats-at-requires-clause-room c =
     let who = named_at w p i it c.proposer_list-written.ensures on in
     let read = cross_read c.proposer_crosses-written_crosses.ensures on c.index-written_crosses-place.is c.place.ensures in
     let passes = (crossed_at it.proposer_entries on read c.in-Some.is).passes in
-    let s = seats_read w r (c.as_slice-firsts.ensures.value ∙ c.requires.firsts) who.1 in
+    let s = seats_read w r c.requires.firsts who.1 in
     let seats = ap length (seats_between w c.as_slice-numbers.result.now r (c.as_slice-numbers.ensures.value ∙ c.requires.numbers) s ∙ ap (seats_at w) who.0) ∙ length-range_with_len (seats_before w x) (seat_count w x) in
     let more = list_more it on passes c.loop-place.invariant.counted in
     let up = seats_listed-le w p (i + 1) (length (row w.proposers p)) (omega (arith, on)) in

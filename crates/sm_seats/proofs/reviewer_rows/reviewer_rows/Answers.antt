@@ -17,9 +17,9 @@ loop-r-preserved c =
     let r = c.loop-r.r in
     let before = c.loop-r.invariant in
     let there : r < length w.reviewers = omega (arith, c.loop-r-test.true, c.reviewer_count-reviewers.ensures.count) in
-    let s = seats_read w r (c.as_slice-firsts.ensures.value ∙ c.requires.firsts) there in
+    let s = seats_read w r c.requires.firsts there in
     let all = sym (range_more 0 r r (omega arith)) in
-    let firsts : List ℕ = c.as_slice-firsts.result.now in
+    let firsts : List ℕ = c.args.counts.now.firsts.now in
     let size : ℕ = get_or firsts (r + 1) 0 - get_or firsts r 0 in
     record {
       seats = piece_pushed (named_seats w) (range_with_len 0 r) r _ _ _ before.seats c.in_ok-add_names.ensures (ap (λ (n : ℕ). map (λ (k : ℕ). (r, k)) (range_with_len 1 n)) s.count) ∙ ap (flat_map (named_seats w)) all;
@@ -31,23 +31,23 @@ loop-r-preserved c =
 pub bounds-firsts-reviewers : goal.bounds-firsts-reviewers
 bounds-firsts-reviewers c =
     let w = c.args.instance.now in
-    let long = ap length (c.as_slice-firsts.ensures.value ∙ c.requires.firsts) ∙ length-map-range_with_len (seats_before w) 0 (length w.reviewers + 1) in
+    let long = ap length c.requires.firsts ∙ length-map-range_with_len (seats_before w) 0 (length w.reviewers + 1) in
     omega (arith, long, c.reviewer_count-reviewers.ensures.count)
 
 pub bounds-firsts-r : goal.bounds-firsts-r
-bounds-firsts-r c = (seats_read c.args.instance.now c.loop-r.r (c.as_slice-firsts.ensures.value ∙ c.requires.firsts) (omega (arith, c.loop-r-test.true, c.reviewer_count-reviewers.ensures.count))).inside
+bounds-firsts-r c = (seats_read c.args.instance.now c.loop-r.r c.requires.firsts (omega (arith, c.loop-r-test.true, c.reviewer_count-reviewers.ensures.count))).inside
 
 pub bounds-firsts-r-in-loop-r : goal.bounds-firsts-r-in-loop-r
-bounds-firsts-r-in-loop-r c = omega (arith, (seats_read c.args.instance.now c.loop-r.r (c.as_slice-firsts.ensures.value ∙ c.requires.firsts) (omega (arith, c.loop-r-test.true, c.reviewer_count-reviewers.ensures.count))).inside)
+bounds-firsts-r-in-loop-r c = omega (arith, (seats_read c.args.instance.now c.loop-r.r c.requires.firsts (omega (arith, c.loop-r-test.true, c.reviewer_count-reviewers.ensures.count))).inside)
 
 pub overflow_sub-count : goal.overflow_sub-count
 overflow_sub-count c =
-    let s = seats_read c.args.instance.now c.loop-r.r (c.as_slice-firsts.ensures.value ∙ c.requires.firsts) (omega (arith, c.loop-r-test.true, c.reviewer_count-reviewers.ensures.count)) in
+    let s = seats_read c.args.instance.now c.loop-r.r c.requires.firsts (omega (arith, c.loop-r-test.true, c.reviewer_count-reviewers.ensures.count)) in
     omega (arith, s.first, s.next)
 
 pub add_names-requires : goal.add_names-requires
 add_names-requires c =
-    let s = seats_read c.args.instance.now c.loop-r.r (c.as_slice-firsts.ensures.value ∙ c.requires.firsts) (omega (arith, c.loop-r-test.true, c.reviewer_count-reviewers.ensures.count)) in
+    let s = seats_read c.args.instance.now c.loop-r.r c.requires.firsts (omega (arith, c.loop-r-test.true, c.reviewer_count-reviewers.ensures.count)) in
     omega (arith, s.count, seat_count-le c.reviewer_count-reviewers.ensures.instance c.loop-r.r)
 
 pub bounds-acceptable-r : goal.bounds-acceptable-r
@@ -65,7 +65,7 @@ add_lists-requires-clause-acceptable c =
 pub push_raised-requires : goal.push_raised-requires
 push_raised-requires c = record {
   small = λ i.
-      let s = seats_read c.args.instance.now c.loop-r.r (c.as_slice-firsts.ensures.value ∙ c.requires.firsts) (omega (arith, c.loop-r-test.true, c.reviewer_count-reviewers.ensures.count)) in
+      let s = seats_read c.args.instance.now c.loop-r.r c.requires.firsts (omega (arith, c.loop-r-test.true, c.reviewer_count-reviewers.ensures.count)) in
       let small = c.in_ok-write_begins.ensures.small i in
       let same = ap (λ l. get_or l i 0) c.deref.ensures.value in
       omega (arith, small, same, s.count, seat_count-le c.reviewer_count-reviewers.ensures.instance c.loop-r.r);

@@ -5,7 +5,7 @@ use Rattle.sm_theory.specs.Sizes.{weights_in, AreWeights}
 use Rattle.sm_seats.specs.SeatMarket.{seat_market}
 use Rattle.sm_seats.specs.Seating.{seating_of}
 use Rattle.sm_seats.specs.Correspondence.{weights_of}
-use Rattle.sm_placed.specs.Levels.{has_two_levels, seconds_by}
+use Rattle.sm_seats.specs.Levels.{has_two_levels, seconds_by}
 use Rattle.sm_report.specs.Lines.{LineData, line_of}
 use Rattle.sm_check_weight.proofs.MoveLemmas.{can_be_weighed}
 use Rattle.sm_check_weight.proofs.GainLemmas.{gain_is, gain_right, gain_wrong, second_gain_right, second_gain_wrong, silent_above}

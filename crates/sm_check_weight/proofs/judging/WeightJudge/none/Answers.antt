@@ -5,8 +5,8 @@ use Rattle.sm_seats.specs.Seating.{seating_of, levels_of}
 use Rattle.sm_seats.specs.Correspondence.{IsSeating, weights_of}
 use Rattle.sm_seats.proofs.CorrespondenceLaws.{sound_entries, is_seating}
 use Rattle.sm_instance.specs.Ranks.{pair_weight}
-use Rattle.sm_placed.specs.Levels.{pair_second_by, seconds_by}
-use Rattle.sm_placed.proofs.PlaceLemmas.{are_weights}
+use Rattle.sm_seats.specs.Levels.{pair_second_by, seconds_by}
+use Rattle.sm_seats.proofs.PlaceLemmas.{are_weights}
 use Rattle.sm_check_weight.proofs.judging.WeightJudge.none.Goals as goal
 
 pub weights_of_places-requires-clause-seating : goal.weights_of_places-requires-clause-seating

@@ -9,8 +9,8 @@ checked-requires-clause-few c =
     let forbidden = ap (λ (w : Written). length w.forbidden) c.in_ok-parts.ensures in
     omega (arith, weights, forced, forbidden, c.requires.few)
 
-pub of_parts-requires-clause-few : goal.of_parts-requires-clause-few
-of_parts-requires-clause-few c =
+pub of_checked-requires-clause-few : goal.of_checked-requires-clause-few
+of_checked-requires-clause-few c =
     let weights = ap (λ (w : Written). length w.weights) c.in_ok-parts.ensures in
     let forced = ap (λ (w : Written). length w.forced) c.in_ok-parts.ensures in
     let forbidden = ap (λ (w : Written). length w.forbidden) c.in_ok-parts.ensures in

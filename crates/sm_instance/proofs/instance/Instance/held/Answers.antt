@@ -8,4 +8,4 @@ pub of-requires-clause-differ : goal.of-requires-clause-differ
 of-requires-clause-differ c =
     let parts = c.args.parts in
     let Differ : List (ℕ × ℕ × ℤ) → Type 0 = λ ws. (n k : ℕ) → k < n → n < length ws → pair_at (map weighed ws) k ≢ pair_at (map weighed ws) n in
-    subst Differ (sym c.deref-3.ensures.value) (weights_differ parts.weights.items parts.forced.items parts.forbidden.items c.requires.instance.items)
+    subst Differ (sym c.deref.ensures.value) (weights_differ parts.weights.items parts.forced.items parts.forbidden.items c.requires.instance.items)

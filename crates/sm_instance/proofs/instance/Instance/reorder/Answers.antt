@@ -1,5 +1,5 @@
 use Rattle.std.proofs.Common.{arith}
-use Rattle.sm_instance.proofs.OrderLemmas.{each_once_long}
+use Rattle.sm_lists.proofs.OrderLemmas.{each_once_long}
 use Rattle.sm_instance.proofs.AgentLemmas.{length-agents}
 use Rattle.sm_instance.proofs.instance.Instance.reorder.Goals as goal
 

@@ -1,0 +1,51 @@
+use Rattle.std.proofs.Common.{◌≡◌, ℕ, ◌-◌, ◌^◌, List, Option, length, ap, subst, sym, ◌∙◌, arith}
+use Rattle.std.proofs.lemmas.List.{length-map}
+use Rattle.sm_lists.specs.Rows.{lists_in}
+use Rattle.sm_lists.specs.Crosses.{AreCrossPlaces as AreCrossesKnown}
+use Rattle.sm_lists.specs.Held.{held_in, AreShort}
+use Rattle.sm_lists.specs.Namings.{AreNamings as AreKnown}
+use Rattle.sm_lists.specs.declared.compact_naming.CompactNaming.{CompactNaming}
+use Rattle.sm_instance.specs.Written.{AgentData, lists_of}
+use Rattle.sm_instance.specs.Vectors.{agents_of}
+use Rattle.sm_instance.proofs.CrossLemmas.{lists_short, shorter, crosses_known, held_in-places, known_namings}
+use Rattle.sm_instance.proofs.crosses.find_crosses.Goals as goal
+
+pub cross_places-requires-clause-short_rows : goal.cross_places-requires-clause-short_rows
+cross_places-requires-clause-short_rows c =
+    let is = ap (λ lent. lists_in lent) c.deref.ensures.value ∙ c.in_ok-proposers.ensures in
+    subst (λ lists. AreShort lists (2 ^ 16 - 1)) (sym is) (shorter (omega arith) (lists_short c.requires.proposers c.requires.limits.proposers c.requires.limits.reviewers))
+
+pub cross_places-requires-clause-short_others : goal.cross_places-requires-clause-short_others
+cross_places-requires-clause-short_others c =
+    let is = ap (λ lent. lists_in lent) c.deref-2.ensures.value ∙ c.in_ok-reviewers.ensures in
+    subst (λ lists. AreShort lists (2 ^ 16 - 1)) (sym is) (shorter (omega arith) (lists_short c.requires.reviewers c.requires.limits.reviewers c.requires.limits.proposers))
+
+pub cross_places-requires-clause-namings : goal.cross_places-requires-clause-namings
+cross_places-requires-clause-namings c =
+    let proposers : List AgentData = agents_of c.args.proposers.now in
+    let reviewers : List AgentData = agents_of c.args.reviewers.now in
+    let is : lists_in c.deref.result.now ≡ lists_of proposers = ap (λ lent. lists_in lent) c.deref.ensures.value ∙ c.in_ok-proposers.ensures in
+    let is' : lists_in c.deref-2.result.now ≡ lists_of reviewers = ap (λ lent. lists_in lent) c.deref-2.ensures.value ∙ c.in_ok-reviewers.ensures in
+    let many : length (lists_of reviewers) ≡ length reviewers = length-map reviewers (λ (x : AgentData). x.entries) in
+    let Held : List (List ℕ) → ℕ → Type 0 = λ rows others. AreKnown rows others (length rows) 0 (held_in (λ (n : CompactNaming). record { by = n.by; place = n.place }) c.args.namings.now) in
+    subst (λ x. Held x (length (lists_in c.deref-2.result.now))) (sym is)
+    (subst (λ n. Held (lists_of proposers) n) (sym (ap length is' ∙ many)) (known_namings c.args.namings.now c.requires.namings))
+
+pub returns : goal.returns
+returns c =
+    let proposers : List AgentData = agents_of c.args.proposers.now in
+    let reviewers : List AgentData = agents_of c.args.reviewers.now in
+    let is : lists_in c.deref.result.now ≡ lists_of proposers = ap (λ lent. lists_in lent) c.deref.ensures.value ∙ c.in_ok-proposers.ensures in
+    let is' : lists_in c.deref-2.result.now ≡ lists_of reviewers = ap (λ lent. lists_in lent) c.deref-2.ensures.value ∙ c.in_ok-reviewers.ensures in
+    let found = c.in_ok-rows.field-0 in
+    let known = c.in_ok-rows.ensures in
+    record {
+      there = crosses_known proposers reviewers found.rows
+          (subst (λ x. AreCrossesKnown (lists_of proposers) (lists_of reviewers) x) (held_in-places found.rows)
+          (subst (λ x. AreCrossesKnown (lists_of proposers) x (held_in (λ (place : Option ℕ). place) found.rows)) is'
+          (subst (λ x. AreCrossesKnown x (lists_in c.deref-2.result.now) (held_in (λ (place : Option ℕ). place) found.rows)) is known.rows)));
+      back = crosses_known reviewers proposers found.others
+          (subst (λ x. AreCrossesKnown (lists_of reviewers) (lists_of proposers) x) (held_in-places found.others)
+          (subst (λ x. AreCrossesKnown (lists_of reviewers) x (held_in (λ (place : Option ℕ). place) found.others)) is
+          (subst (λ x. AreCrossesKnown x (lists_in c.deref.result.now) (held_in (λ (place : Option ℕ). place) found.others)) is' known.others)));
+    }

@@ -1,3 +1,0 @@
-pub mod PlaceWeights
-pub mod Levels
-pub mod ShownNet

@@ -1,5 +1,0 @@
-use Rattle.sm_rotations.specs.Marking.{IsBetween, Adds}
-use Rattle.sm_rotations.proofs.predecessors.add_between.Given as goal
-
-abbrev pub invariant-loop-place : goal.invariant-loop-place
-invariant-loop-place l = Adds (λ i. IsBetween l.marks l.from l.place i) l.fn.found.items l.found.items
