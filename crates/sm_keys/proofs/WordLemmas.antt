@@ -1,13 +1,13 @@
 -- Bytes as one number.
-use Rattle.std.proofs.Common.{◌≡◌, ℕ, ◌+◌, ◌-◌, ◌*◌, ◌^◌, ◌<◌, ◌≤◌, eqb, Bool, true, false, List, length, get_or, take, drop, refl, sym, ap, ◌∙◌, arith, w32, length-drop, length-take, length-take-le, get_or-drop, get_or-take, subst, ⊎_elim}
-use Rattle.std.specs.Int.{from_le_bytes, to_le_bytes, w16}
+use Rattle.std.proofs.Common.{◌≡◌, ℕ, zero, suc, ◌+◌, ◌-◌, ◌*◌, ◌%◌, ◌^◌, ◌<◌, ◌≤◌, ◌++◌, ◌∷◌, [], eqb, Bool, true, false, List, length, replicate, get_or, take, drop, refl, sym, ap, ◌∙◌, arith, w32, length-drop, length-take, length-take-le, get_or-drop, get_or-take, subst, ⊎_elim}
+use Rattle.std.specs.Int.{from_le_bytes, to_le_bytes, w64}
 use Rattle.std.specs.Str.{bytes_eq}
 use Rattle.std.proofs.lemmas.Bool.{false≢true, cases_lt}
 use Rattle.std.proofs.lemmas.Bool.Decides.{nat_tests}
-use Rattle.std.proofs.lemmas.List.{get_or_past}
-use Rattle.std.proofs.lemmas.Nat.{le_bytes_2, le_bytes_4}
-use Rattle.sm_keys.specs.Words.{IsWordOf, ends_by_twos, ends_by_fours}
-use Rattle.sm_keys.proofs.TextLemmas.{same_text, other_text, same_ends}
+use Rattle.std.proofs.lemmas.List.{get_or_past, get_or_append_left, get_or-append_right, get_or-replicate, length-append, length-replicate, drop-replicate, take-take, take-append-le, take_all}
+use Rattle.std.proofs.lemmas.Nat.{le_bytes_4, le_bytes_8, mod-mul-add}
+use Rattle.sm_keys.specs.Words.{IsWordOf, HasWord, word_of}
+use Rattle.sm_keys.proofs.TextLemmas.{same_text, other_text}
 
 -- four bytes are the same where the number is
 pub same_word : (a b : List ℕ) (m n : ℕ) → length a ≡ 4 → length b ≡ 4 → ((i : ℕ) → get_or a i 0 < 256) → ((i : ℕ) → get_or b i 0 < 256)
@@ -23,75 +23,164 @@ same_word a b m n four_a four_b bytes_a bytes_b is_m is_n = by_test (eqb m n) re
         let equal : m ≡ n = is_m ∙ ap (from_le_bytes w32) same ∙ sym is_n in
         false≢true (sym e ∙ grind (arith, nat_tests))))
 
--- two bytes are the same where the number is, and four
-same_two : (a b : List ℕ) → length a ≡ 2 → length b ≡ 2 → ((i : ℕ) → get_or a i 0 < 256) → ((i : ℕ) → get_or b i 0 < 256) → from_le_bytes w16 a ≡ from_le_bytes w16 b → a ≡ b
-same_two a b two_a two_b bytes_a bytes_b same =
-    sym (le_bytes_2 a (from_le_bytes w16 a) two_a bytes_a refl) ∙ le_bytes_2 b (from_le_bytes w16 a) two_b bytes_b same
+-- eight bytes, of which the first n are moved to the top of 64 bits
+module _ (bytes : List ℕ) (small : (i : ℕ) → get_or bytes i 0 < 256) where
+  abbrev b : ℕ → ℕ
+  b i = get_or bytes i 0
 
-same_four : (a b : List ℕ) → length a ≡ 4 → length b ≡ 4 → ((i : ℕ) → get_or a i 0 < 256) → ((i : ℕ) → get_or b i 0 < 256) → from_le_bytes w32 a ≡ from_le_bytes w32 b → a ≡ b
-same_four a b four_a four_b bytes_a bytes_b same =
-    sym (le_bytes_4 a (from_le_bytes w32 a) four_a bytes_a refl) ∙ le_bytes_4 b (from_le_bytes w32 a) four_b bytes_b same
+  before : (n i : ℕ) → i < n → get_or (take n bytes) i 0 ≡ b i
+  before n i h = get_or-take n bytes i 0 h
 
--- two bytes make less than 2 ^ 16, and four less than 2 ^ 32
-two_below : (a : List ℕ) → ((i : ℕ) → get_or a i 0 < 256) → from_le_bytes w16 a < 2 ^ 16
-two_below a bytes = omega (arith, bytes 0, bytes 1)
+  past : (n i : ℕ) → n ≤ i → get_or (take n bytes) i 0 ≡ 0
+  past n i h = get_or_past (take n bytes) i 0 (omega (arith, length-take n bytes))
 
-four_below : (a : List ℕ) → ((i : ℕ) → get_or a i 0 < 256) → from_le_bytes w32 a < 2 ^ 32
-four_below a bytes = omega (arith, bytes 0, bytes 1, bytes 2, bytes 3)
+  -- the others go past the top
+  moved : (n : ℕ) → 1 ≤ n → n ≤ 8 → from_le_bytes w64 bytes * 2 ^ (64 - 8 * n) % 2 ^ 64 ≡ from_le_bytes w64 (take n bytes) * 2 ^ (64 - 8 * n)
+  moved zero enough few = absurd (omega arith)
+  moved (suc zero) enough few =
+      let all : from_le_bytes w64 bytes * 2 ^ 56 ≡ (b 1 + b 2 * 256 + b 3 * 65536 + b 4 * 16777216 + b 5 * 4294967296 + b 6 * 1099511627776 + b 7 * 281474976710656) * 2 ^ 64 + (b 0) * 2 ^ 56 = omega arith in
+      let front : (b 0) * 2 ^ 56 ≡ from_le_bytes w64 (take 1 bytes) * 2 ^ 56 = omega (arith, before 1 0 (omega arith), past 1 1 (omega arith), past 1 2 (omega arith), past 1 3 (omega arith), past 1 4 (omega arith), past 1 5 (omega arith), past 1 6 (omega arith), past 1 7 (omega arith)) in
+      ap (λ m. m % 2 ^ 64) all ∙ mod-mul-add (b 1 + b 2 * 256 + b 3 * 65536 + b 4 * 16777216 + b 5 * 4294967296 + b 6 * 1099511627776 + b 7 * 281474976710656) (2 ^ 64) ((b 0) * 2 ^ 56) (omega (arith, small 0)) ∙ front
+  moved (suc (suc zero)) enough few =
+      let all : from_le_bytes w64 bytes * 2 ^ 48 ≡ (b 2 + b 3 * 256 + b 4 * 65536 + b 5 * 16777216 + b 6 * 4294967296 + b 7 * 1099511627776) * 2 ^ 64 + (b 0 + b 1 * 256) * 2 ^ 48 = omega arith in
+      let front : (b 0 + b 1 * 256) * 2 ^ 48 ≡ from_le_bytes w64 (take 2 bytes) * 2 ^ 48 = omega (arith, before 2 0 (omega arith), before 2 1 (omega arith), past 2 2 (omega arith), past 2 3 (omega arith), past 2 4 (omega arith), past 2 5 (omega arith), past 2 6 (omega arith), past 2 7 (omega arith)) in
+      ap (λ m. m % 2 ^ 64) all ∙ mod-mul-add (b 2 + b 3 * 256 + b 4 * 65536 + b 5 * 16777216 + b 6 * 4294967296 + b 7 * 1099511627776) (2 ^ 64) ((b 0 + b 1 * 256) * 2 ^ 48) (omega (arith, small 0, small 1)) ∙ front
+  moved (suc (suc (suc zero))) enough few =
+      let all : from_le_bytes w64 bytes * 2 ^ 40 ≡ (b 3 + b 4 * 256 + b 5 * 65536 + b 6 * 16777216 + b 7 * 4294967296) * 2 ^ 64 + (b 0 + b 1 * 256 + b 2 * 65536) * 2 ^ 40 = omega arith in
+      let front : (b 0 + b 1 * 256 + b 2 * 65536) * 2 ^ 40 ≡ from_le_bytes w64 (take 3 bytes) * 2 ^ 40 = omega (arith, before 3 0 (omega arith), before 3 1 (omega arith), before 3 2 (omega arith), past 3 3 (omega arith), past 3 4 (omega arith), past 3 5 (omega arith), past 3 6 (omega arith), past 3 7 (omega arith)) in
+      ap (λ m. m % 2 ^ 64) all ∙ mod-mul-add (b 3 + b 4 * 256 + b 5 * 65536 + b 6 * 16777216 + b 7 * 4294967296) (2 ^ 64) ((b 0 + b 1 * 256 + b 2 * 65536) * 2 ^ 40) (omega (arith, small 0, small 1, small 2)) ∙ front
+  moved (suc (suc (suc (suc zero)))) enough few =
+      let all : from_le_bytes w64 bytes * 2 ^ 32 ≡ (b 4 + b 5 * 256 + b 6 * 65536 + b 7 * 16777216) * 2 ^ 64 + (b 0 + b 1 * 256 + b 2 * 65536 + b 3 * 16777216) * 2 ^ 32 = omega arith in
+      let front : (b 0 + b 1 * 256 + b 2 * 65536 + b 3 * 16777216) * 2 ^ 32 ≡ from_le_bytes w64 (take 4 bytes) * 2 ^ 32 = omega (arith, before 4 0 (omega arith), before 4 1 (omega arith), before 4 2 (omega arith), before 4 3 (omega arith), past 4 4 (omega arith), past 4 5 (omega arith), past 4 6 (omega arith), past 4 7 (omega arith)) in
+      ap (λ m. m % 2 ^ 64) all ∙ mod-mul-add (b 4 + b 5 * 256 + b 6 * 65536 + b 7 * 16777216) (2 ^ 64) ((b 0 + b 1 * 256 + b 2 * 65536 + b 3 * 16777216) * 2 ^ 32) (omega (arith, small 0, small 1, small 2, small 3)) ∙ front
+  moved (suc (suc (suc (suc (suc zero))))) enough few =
+      let all : from_le_bytes w64 bytes * 2 ^ 24 ≡ (b 5 + b 6 * 256 + b 7 * 65536) * 2 ^ 64 + (b 0 + b 1 * 256 + b 2 * 65536 + b 3 * 16777216 + b 4 * 4294967296) * 2 ^ 24 = omega arith in
+      let front : (b 0 + b 1 * 256 + b 2 * 65536 + b 3 * 16777216 + b 4 * 4294967296) * 2 ^ 24 ≡ from_le_bytes w64 (take 5 bytes) * 2 ^ 24 = omega (arith, before 5 0 (omega arith), before 5 1 (omega arith), before 5 2 (omega arith), before 5 3 (omega arith), before 5 4 (omega arith), past 5 5 (omega arith), past 5 6 (omega arith), past 5 7 (omega arith)) in
+      ap (λ m. m % 2 ^ 64) all ∙ mod-mul-add (b 5 + b 6 * 256 + b 7 * 65536) (2 ^ 64) ((b 0 + b 1 * 256 + b 2 * 65536 + b 3 * 16777216 + b 4 * 4294967296) * 2 ^ 24) (omega (arith, small 0, small 1, small 2, small 3, small 4)) ∙ front
+  moved (suc (suc (suc (suc (suc (suc zero)))))) enough few =
+      let all : from_le_bytes w64 bytes * 2 ^ 16 ≡ (b 6 + b 7 * 256) * 2 ^ 64 + (b 0 + b 1 * 256 + b 2 * 65536 + b 3 * 16777216 + b 4 * 4294967296 + b 5 * 1099511627776) * 2 ^ 16 = omega arith in
+      let front : (b 0 + b 1 * 256 + b 2 * 65536 + b 3 * 16777216 + b 4 * 4294967296 + b 5 * 1099511627776) * 2 ^ 16 ≡ from_le_bytes w64 (take 6 bytes) * 2 ^ 16 = omega (arith, before 6 0 (omega arith), before 6 1 (omega arith), before 6 2 (omega arith), before 6 3 (omega arith), before 6 4 (omega arith), before 6 5 (omega arith), past 6 6 (omega arith), past 6 7 (omega arith)) in
+      ap (λ m. m % 2 ^ 64) all ∙ mod-mul-add (b 6 + b 7 * 256) (2 ^ 64) ((b 0 + b 1 * 256 + b 2 * 65536 + b 3 * 16777216 + b 4 * 4294967296 + b 5 * 1099511627776) * 2 ^ 16) (omega (arith, small 0, small 1, small 2, small 3, small 4, small 5)) ∙ front
+  moved (suc (suc (suc (suc (suc (suc (suc zero))))))) enough few =
+      let all : from_le_bytes w64 bytes * 2 ^ 8 ≡ (b 7) * 2 ^ 64 + (b 0 + b 1 * 256 + b 2 * 65536 + b 3 * 16777216 + b 4 * 4294967296 + b 5 * 1099511627776 + b 6 * 281474976710656) * 2 ^ 8 = omega arith in
+      let front : (b 0 + b 1 * 256 + b 2 * 65536 + b 3 * 16777216 + b 4 * 4294967296 + b 5 * 1099511627776 + b 6 * 281474976710656) * 2 ^ 8 ≡ from_le_bytes w64 (take 7 bytes) * 2 ^ 8 = omega (arith, before 7 0 (omega arith), before 7 1 (omega arith), before 7 2 (omega arith), before 7 3 (omega arith), before 7 4 (omega arith), before 7 5 (omega arith), before 7 6 (omega arith), past 7 7 (omega arith)) in
+      ap (λ m. m % 2 ^ 64) all ∙ mod-mul-add (b 7) (2 ^ 64) ((b 0 + b 1 * 256 + b 2 * 65536 + b 3 * 16777216 + b 4 * 4294967296 + b 5 * 1099511627776 + b 6 * 281474976710656) * 2 ^ 8) (omega (arith, small 0, small 1, small 2, small 3, small 4, small 5, small 6)) ∙ front
+  moved (suc (suc (suc (suc (suc (suc (suc (suc zero)))))))) enough few =
+      let all : from_le_bytes w64 bytes * 2 ^ 0 ≡ (0) * 2 ^ 64 + (b 0 + b 1 * 256 + b 2 * 65536 + b 3 * 16777216 + b 4 * 4294967296 + b 5 * 1099511627776 + b 6 * 281474976710656 + b 7 * 72057594037927936) * 2 ^ 0 = omega arith in
+      let front : (b 0 + b 1 * 256 + b 2 * 65536 + b 3 * 16777216 + b 4 * 4294967296 + b 5 * 1099511627776 + b 6 * 281474976710656 + b 7 * 72057594037927936) * 2 ^ 0 ≡ from_le_bytes w64 (take 8 bytes) * 2 ^ 0 = omega (arith, before 8 0 (omega arith), before 8 1 (omega arith), before 8 2 (omega arith), before 8 3 (omega arith), before 8 4 (omega arith), before 8 5 (omega arith), before 8 6 (omega arith), before 8 7 (omega arith)) in
+      ap (λ m. m % 2 ^ 64) all ∙ mod-mul-add (0) (2 ^ 64) ((b 0 + b 1 * 256 + b 2 * 65536 + b 3 * 16777216 + b 4 * 4294967296 + b 5 * 1099511627776 + b 6 * 281474976710656 + b 7 * 72057594037927936) * 2 ^ 0) (omega (arith, small 0, small 1, small 2, small 3, small 4, small 5, small 6, small 7)) ∙ front
+  moved (suc (suc (suc (suc (suc (suc (suc (suc (suc n))))))))) enough few = absurd (omega arith)
 
--- numbers of two halves are the same where the halves are
-twos_differ : (f l g m : ℕ) → l < 2 ^ 16 → m < 2 ^ 16 → f * 2 ^ 16 + l ≡ g * 2 ^ 16 + m → (f ≡ g) × (l ≡ m)
-twos_differ f l g m below_l below_m same = (omega arith, omega arith)
+-- numbers are the same where they are once moved up
+same_factor : (x y n : ℕ) → n ≤ 8 → x * 2 ^ (64 - 8 * n) ≡ y * 2 ^ (64 - 8 * n) → x ≡ y
+same_factor x y zero few same = omega arith
+same_factor x y (suc zero) few same = omega arith
+same_factor x y (suc (suc zero)) few same = omega arith
+same_factor x y (suc (suc (suc zero))) few same = omega arith
+same_factor x y (suc (suc (suc (suc zero)))) few same = omega arith
+same_factor x y (suc (suc (suc (suc (suc zero))))) few same = omega arith
+same_factor x y (suc (suc (suc (suc (suc (suc zero)))))) few same = omega arith
+same_factor x y (suc (suc (suc (suc (suc (suc (suc zero))))))) few same = omega arith
+same_factor x y (suc (suc (suc (suc (suc (suc (suc (suc zero)))))))) few same = omega arith
+same_factor x y (suc (suc (suc (suc (suc (suc (suc (suc (suc n))))))))) few same = absurd (omega arith)
 
-fours_differ : (f l g m : ℕ) → l < 2 ^ 32 → m < 2 ^ 32 → f * 2 ^ 32 + l ≡ g * 2 ^ 32 + m → (f ≡ g) × (l ≡ m)
-fours_differ f l g m below_l below_m same = (omega arith, omega arith)
+-- the word of a name, from the number of eight bytes that begin with it
+pub moved_up : (first : ℕ) (name : List ℕ) → 1 ≤ length name → length name ≤ 8 → HasWord first name → first * 2 ^ (64 - 8 * length name) % 2 ^ 64 ≡ word_of name
+moved_up first name enough few has =
+    ap (λ m. m * 2 ^ (64 - 8 * length name) % 2 ^ 64) has.number ∙ moved has.bytes has.small (length name) enough few
+    ∙ ap (λ xs. from_le_bytes w64 xs * 2 ^ (64 - 8 * length name)) has.begins
 
--- the bytes behind a place, and those before one
-bytes_behind : (k : ℕ) (a : List ℕ) → ((i : ℕ) → get_or a i 0 < 256) → (i : ℕ) → get_or (drop k a) i 0 < 256
-bytes_behind k a bytes i = subst (λ x. x < 256) (sym (get_or-drop k a i 0)) (bytes (k + i))
+-- a name of at most eight bytes with zeros behind it, eight bytes in all
+module _ (a : List ℕ) (bytes : (i : ℕ) → get_or a i 0 < 256) (few : length a ≤ 8) where
+  abbrev padded : List ℕ
+  padded = a ++ replicate (8 - length a) 0
 
-bytes_before : (k : ℕ) (a : List ℕ) → ((i : ℕ) → get_or a i 0 < 256) → (i : ℕ) → get_or (take k a) i 0 < 256
-bytes_before k a bytes i = ⊎_elim
-    (λ (before : i < k). subst (λ x. x < 256) (sym (get_or-take k a i 0 before)) (bytes i))
-    (λ (past : k ≤ i). subst (λ x. x < 256) (sym (get_or_past (take k a) i 0 (omega (arith, length-take k a)))) (let h : 0 < 256 = omega arith in h))
-    (cases_lt i k)
+  eight : length padded ≡ 8
+  eight = omega (arith, length-append a (replicate (8 - length a) 0), length-replicate {A = ℕ} (8 - length a) 0)
 
-module _ (a b : List ℕ) (bytes_a : (i : ℕ) → get_or a i 0 < 256) (bytes_b : (i : ℕ) → get_or b i 0 < 256) (long : length a ≡ length b) where
-  -- names of two to four bytes are the same where their ends by twos are
-  same_by_twos : 2 ≤ length a → length a ≤ 4 → ends_by_twos a ≡ ends_by_twos b → a ≡ b
-  same_by_twos enough few same =
-      let halves = twos_differ (from_le_bytes w16 (take 2 a)) (from_le_bytes w16 (drop (length a - 2) a)) (from_le_bytes w16 (take 2 b)) (from_le_bytes w16 (drop (length b - 2) b))
-      (two_below (drop (length a - 2) a) (bytes_behind (length a - 2) a bytes_a)) (two_below (drop (length b - 2) b) (bytes_behind (length b - 2) b bytes_b)) same in
-      same_ends 2 a b long enough few
-      (same_two (take 2 a) (take 2 b) (length-take-le 2 a enough) (length-take-le 2 b (omega arith)) (bytes_before 2 a bytes_a) (bytes_before 2 b bytes_b) halves.0)
-      (same_two (drop (length a - 2) a) (drop (length b - 2) b) (omega (arith, length-drop (length a - 2) a)) (omega (arith, length-drop (length b - 2) b))
-      (bytes_behind (length a - 2) a bytes_a) (bytes_behind (length b - 2) b bytes_b) halves.1)
+  -- its bytes are those of the name, and zeros
+  padded_byte : (i : ℕ) → i < 8 → get_or padded i 0 ≡ get_or a i 0
+  padded_byte i h = ⊎_elim
+      (λ (before : i < length a). get_or_append_left a (replicate (8 - length a) 0) 0 i before)
+      (λ (past : length a ≤ i).
+      get_or-append_right a (replicate (8 - length a) 0) (length a) i 0 refl past ∙ get_or-replicate (8 - length a) (i - length a) 0 0 (omega arith) ∙ sym (get_or_past a i 0 past))
+      (cases_lt i (length a))
 
-  -- and those of four to eight bytes are where their ends by fours are
-  same_by_fours : 4 ≤ length a → length a ≤ 8 → ends_by_fours a ≡ ends_by_fours b → a ≡ b
-  same_by_fours enough few same =
-      let halves = fours_differ (from_le_bytes w32 (take 4 a)) (from_le_bytes w32 (drop (length a - 4) a)) (from_le_bytes w32 (take 4 b)) (from_le_bytes w32 (drop (length b - 4) b))
-      (four_below (drop (length a - 4) a) (bytes_behind (length a - 4) a bytes_a)) (four_below (drop (length b - 4) b) (bytes_behind (length b - 4) b bytes_b)) same in
-      same_ends 4 a b long enough few
-      (same_four (take 4 a) (take 4 b) (length-take-le 4 a enough) (length-take-le 4 b (omega arith)) (bytes_before 4 a bytes_a) (bytes_before 4 b bytes_b) halves.0)
-      (same_four (drop (length a - 4) a) (drop (length b - 4) b) (omega (arith, length-drop (length a - 4) a)) (omega (arith, length-drop (length b - 4) b))
-      (bytes_behind (length a - 4) a bytes_a) (bytes_behind (length b - 4) b bytes_b) halves.1)
+  padded_small : (i : ℕ) → get_or padded i 0 < 256
+  padded_small i = ⊎_elim
+      (λ (h : i < 8). subst (λ x. x < 256) (sym (padded_byte i h)) (bytes i))
+      (λ (past : 8 ≤ i). subst (λ x. x < 256) (sym (get_or_past padded i 0 (omega (arith, eight)))) (let h : 0 < 256 = omega arith in h))
+      (cases_lt i 8)
 
-  -- names of two to eight bytes are the same where their words are
-  pub words_decide : (m n : ℕ) → IsWordOf m a → IsWordOf n b → 2 ≤ length b → length b ≤ 8 → eqb m n ≡ bytes_eq a b
-  words_decide m n is_m is_n enough few = by_test (eqb m n) refl
-    where
-      by_test : (t : Bool) → eqb m n ≡ t → eqb m n ≡ bytes_eq a b
-      by_test true e =
-          let same : m ≡ n = grind (arith, nat_tests) in
-          e ∙ sym (same_text a b (⊎_elim
-          (λ (below : length a < 5). same_by_twos (omega arith) (omega arith) (sym (is_m.by_twos (omega arith) (omega arith)) ∙ same ∙ is_n.by_twos (omega arith) (omega arith)))
-          (λ (past : 5 ≤ length a). same_by_fours (omega arith) (omega arith) (sym (is_m.by_fours (omega arith) (omega arith)) ∙ same ∙ is_n.by_fours (omega arith) (omega arith)))
-          (cases_lt (length a) 5)))
-      by_test false e =
-          e ∙ sym (other_text a b (λ (equal : a ≡ b).
-          let same : m ≡ n = ⊎_elim
-          (λ (below : length a < 5). is_m.by_twos (omega arith) (omega arith) ∙ ap ends_by_twos equal ∙ sym (is_n.by_twos (omega arith) (omega arith)))
-          (λ (past : 5 ≤ length a). is_m.by_fours (omega arith) (omega arith) ∙ ap ends_by_fours equal ∙ sym (is_n.by_fours (omega arith) (omega arith)))
-          (cases_lt (length a) 5) in
-          false≢true (sym e ∙ grind (arith, nat_tests))))
+  -- so they make the same number
+  padded_number : from_le_bytes w64 padded ≡ from_le_bytes w64 a
+  padded_number = omega (
+    arith,
+    padded_byte 0 (omega arith),
+    padded_byte 1 (omega arith),
+    padded_byte 2 (omega arith),
+    padded_byte 3 (omega arith),
+    padded_byte 4 (omega arith),
+    padded_byte 5 (omega arith),
+    padded_byte 6 (omega arith),
+    padded_byte 7 (omega arith),
+  )
+
+  -- the name can be told from the number
+  told : (n : ℕ) → n ≡ from_le_bytes w64 a → take (length a) (to_le_bytes w64 n) ≡ a
+  told n is = ap (take (length a)) (le_bytes_8 padded n eight padded_small (is ∙ sym padded_number))
+      ∙ take-append-le (length a) a (replicate (8 - length a) 0) (omega arith) ∙ take_all (length a) a (omega arith)
+
+  -- the number of the name with zeros behind it
+  pub with_zeros : (number : ℕ) (copied : List ℕ) → copied ≡ a → number ≡ from_le_bytes w64 (copied ++ drop (length a) (0 ∷ 0 ∷ 0 ∷ 0 ∷ 0 ∷ 0 ∷ 0 ∷ 0 ∷ [])) → HasWord number a
+  with_zeros number copied same is = record {
+    bytes = padded;
+    are_eight = eight;
+    small = padded_small;
+    number = is ∙ ap (λ xs. from_le_bytes w64 (xs ++ drop (length a) (0 ∷ 0 ∷ 0 ∷ 0 ∷ 0 ∷ 0 ∷ 0 ∷ 0 ∷ []))) same ∙ ap (λ xs. from_le_bytes w64 (a ++ xs)) (drop-replicate (length a) 8 0);
+    begins = take-append-le (length a) a (replicate (8 - length a) 0) (omega arith) ∙ take_all (length a) a (omega arith);
+  }
+
+-- the number of eight bytes that stand at a place of a line, of which the first are a name
+pub number_there : (line : List ℕ) (at len number : ℕ) → ((i : ℕ) → get_or line i 0 < 256) → at + 8 ≤ length line → len ≤ 8
+    → number ≡ from_le_bytes w64 (take 8 (drop at line)) → HasWord number (take (at + len - at) (drop at line))
+number_there line at len number bytes inside few is = record {
+  bytes = take 8 (drop at line);
+  are_eight = length-take-le 8 (drop at line) (omega (arith, length-drop at line));
+  small = small;
+  number = is;
+  begins = begins;
+}
+  where
+    small : (i : ℕ) → get_or (take 8 (drop at line)) i 0 < 256
+    small i = ⊎_elim
+        (λ (h : i < 8). subst (λ x. x < 256) (sym (get_or-take 8 (drop at line) i 0 h ∙ get_or-drop at line i 0)) (bytes (at + i)))
+        (λ (past : 8 ≤ i). subst (λ x. x < 256) (sym (get_or_past (take 8 (drop at line)) i 0 (omega (arith, length-take 8 (drop at line))))) (let h : 0 < 256 = omega arith in h))
+        (cases_lt i 8)
+
+    begins : take (length (take (at + len - at) (drop at line))) (take 8 (drop at line)) ≡ take (at + len - at) (drop at line)
+    begins =
+        let n : length (take (at + len - at) (drop at line)) ≡ at + len - at = length-take-le (at + len - at) (drop at line) (omega (arith, length-drop at line)) in
+        ap (λ k. take k (take 8 (drop at line))) n ∙ take-take (at + len - at) 8 (drop at line) (omega arith)
+
+-- names of one to eight bytes are the same where their words are
+pub words_decide : (a b : List ℕ) → ((i : ℕ) → get_or a i 0 < 256) → ((i : ℕ) → get_or b i 0 < 256) → length a ≡ length b
+    → (m n : ℕ) → IsWordOf m a → IsWordOf n b → 1 ≤ length b → length b ≤ 8 → eqb m n ≡ bytes_eq a b
+words_decide a b bytes_a bytes_b long m n is_m is_n enough few = by_test (eqb m n) refl
+  where
+    m_of_a : m ≡ word_of a
+    m_of_a = is_m (omega arith) (omega arith)
+
+    n_of_b : n ≡ word_of b
+    n_of_b = is_n enough few
+
+    by_test : (t : Bool) → eqb m n ≡ t → eqb m n ≡ bytes_eq a b
+    by_test true e =
+        let same : m ≡ n = grind (arith, nat_tests) in
+        let numbers : from_le_bytes w64 a ≡ from_le_bytes w64 b = same_factor (from_le_bytes w64 a) (from_le_bytes w64 b) (length b) few
+        (ap (λ k. from_le_bytes w64 a * 2 ^ (64 - 8 * k)) (sym long) ∙ sym m_of_a ∙ same ∙ n_of_b) in
+        e ∙ sym (same_text a b (sym (told a bytes_a (omega arith) (from_le_bytes w64 a) refl) ∙ ap (λ k. take k (to_le_bytes w64 (from_le_bytes w64 a))) long ∙ told b bytes_b few (from_le_bytes w64 a) numbers))
+    by_test false e =
+        e ∙ sym (other_text a b (λ (equal : a ≡ b).
+        let same : m ≡ n = m_of_a ∙ ap word_of equal ∙ sym n_of_b in
+        false≢true (sym e ∙ grind (arith, nat_tests))))

@@ -1,20 +1,20 @@
 //! Names of a text as keys of a set.
 
-ghost use Rattle.std.specs.Prelude.{◌≡◌, ◌-◌, ◌≤◌, true, length, take, drop};
+ghost use Rattle.std.specs.Prelude.{◌≡◌, ◌-◌, ◌*◌, ◌%◌, ◌^◌, ◌≤◌, true, length, take, drop};
 ghost use Rattle.std.specs.Str.{bytes_eq};
 ghost use Rattle.sm_text.specs.Name.{is_name as is_a_name};
-ghost use Rattle.sm_keys.specs.Words.{IsWordOf, IsNameLen, ends_by_twos, ends_by_fours};
+ghost use Rattle.sm_keys.specs.Words.{IsWordOf, IsNameLen, HasWord, word_of};
 
 use sm_text::is_name;
 use std::hash::{FoldHasher, Hash, Hasher};
 
-/// A name as a key of a set. All its bytes are hashed at once, where a slice is hashed byte by byte. Names of two to eight
+/// A name as a key of a set. All its bytes are hashed at once, where a slice is hashed byte by byte. Names of at most eight
 /// bytes are compared by their words, and names of nine to sixteen bytes by their ends, four bytes at a time.
 #[derive(Clone, Copy)]
 pub struct Key<'a> {
     /// The name.
     pub text: &'a [u8],
-    /// The name's word. Of two to eight bytes, no other name of the same length has it.
+    /// The name's word. Of one to eight bytes, no other name of the same length has it.
     pub word: u64,
     /// Its length, if it was found to be a name by the rule of names, and else 0.
     name_len: usize,
@@ -24,44 +24,33 @@ pub struct Key<'a> {
 
 impl<'a> Key<'a> {
     /// The key of a name. Takes time in its length.
+    #[inline(always)]
     pub fn of(text: &'a [u8]) -> Key<'a>
         ensures { result.text.now ≡ text.now }
     {
-        match text.len() {
-            2..=4 => Key::two_to_four(text),
-            5..=8 => Key::five_to_eight(text),
-            _ => Key {
-                text,
-                word: hash(text),
-                name_len: 0,
-            },
-        }
-    }
-
-    /// The key of a name of two to four bytes. Takes constant time.
-    #[inline(always)]
-    pub fn two_to_four(text: &'a [u8]) -> Key<'a>
-        requires enough { 2 ≤ length text.now }
-        requires few { length text.now ≤ 4 }
-        ensures { result.text.now ≡ text.now }
-    {
+        let word = match text.len() {
+            1..=8 => short_word(text),
+            _ => hash(text),
+        };
         Key {
             text,
-            word: ends_by_twos(text),
+            word,
             name_len: 0,
         }
     }
 
-    /// The key of a name of five to eight bytes. Takes constant time.
+    /// The key of one to eight bytes with which eight bytes begin. `first` is the number that the eight make, the first one least. Takes
+    /// constant time.
     #[inline(always)]
-    pub fn five_to_eight(text: &'a [u8]) -> Key<'a>
-        requires enough { 5 ≤ length text.now }
+    pub(crate) fn beginning(text: &'a [u8], first: u64) -> Key<'a>
+        requires enough { 1 ≤ length text.now }
         requires few { length text.now ≤ 8 }
+        requires first { HasWord first text.now }
         ensures { result.text.now ≡ text.now }
     {
         Key {
             text,
-            word: ends_by_fours(text),
+            word: at_top(first, text.len()),
             name_len: 0,
         }
     }
@@ -83,10 +72,10 @@ impl<'a> Key<'a> {
         }
     }
 
-    /// Is this the key of two to eight bytes, and were they found to be a name? Takes constant time.
+    /// Is this the key of one to eight bytes, and were they found to be a name? Takes constant time.
     #[inline(always)]
     pub(crate) fn is_name_of(&self, key: Key<'_>) -> bool
-        requires enough { 2 ≤ length key.text.now }
+        requires enough { 1 ≤ length key.text.now }
         requires few { length key.text.now ≤ 8 }
         ensures same { result ≡ true → self.now.text.now ≡ key.entry.text.now }
         ensures name { result ≡ true → is_a_name key.entry.text.now ≡ true }
@@ -113,7 +102,7 @@ impl<'a> PartialEq for Key<'a> {
             return false;
         }
         match b.len() {
-            2..=8 => have_same_word(a, b, self.word, other.word),
+            1..=8 => have_same_word(a, b, self.word, other.word),
             9..=16 => equal_by_eights(a, b),
             _ => a == b,
         }
@@ -143,44 +132,41 @@ impl<'a> Hash for Key<'a> {
     }
 }
 
-/// The word of a name of two to four bytes: its first two and its last two.
+/// The word of one to eight bytes.
 #[inline(always)]
-fn ends_by_twos(text: &[u8]) -> u64
-    requires enough { 2 ≤ length text.now }
-    requires few { length text.now ≤ 4 }
-    ensures { result ≡ ends_by_twos text.now }
-{
-    u64::from(u16::from_le_bytes(*first_two(text))) << 16
-        | u64::from(u16::from_le_bytes(*last_two(text)))
-}
-
-/// The word of a name of five to eight bytes: its first four and its last four.
-#[inline(always)]
-fn ends_by_fours(text: &[u8]) -> u64
-    requires enough { 4 ≤ length text.now }
+fn short_word(text: &[u8]) -> u64
+    requires enough { 1 ≤ length text.now }
     requires few { length text.now ≤ 8 }
-    ensures { result ≡ ends_by_fours text.now }
+    ensures { result ≡ word_of text.now }
 {
-    u64::from(u32::from_le_bytes(*first_four(text))) << 32
-        | u64::from(u32::from_le_bytes(*last_four(text)))
+    let mut first = [0; 8];
+    first[..text.len()].copy_from_slice(text);
+    at_top(u64::from_le_bytes(first), text.len())
 }
 
-/// The word of any other name: its only byte, or a hash of all its bytes.
+/// A number whose lowest bytes, so many, stand at its top instead.
+#[inline(always)]
+fn at_top(first: u64, len: usize) -> u64
+    requires enough { 1 ≤ len }
+    requires few { len ≤ 8 }
+    ensures { result ≡ first * 2 ^ (64 - 8 * len) % 2 ^ 64 }
+{
+    first << (64 - 8 * len)
+}
+
+/// The word of any other name: a hash of all its bytes.
 #[inline(never)]
 fn hash(text: &[u8]) -> u64 {
-    if let [only] = text {
-        return u64::from(*only);
-    }
     let mut hasher = FoldHasher::default();
     hasher.write(text);
     hasher.finish()
 }
 
-/// Are two to eight bytes the same, of which these are the words?
+/// Are one to eight bytes the same, of which these are the words?
 #[inline(always)]
 fn have_same_word(a: &[u8], b: &[u8], word: u64, other: u64) -> bool
     requires same_len { length a.now ≡ length b.now }
-    requires enough { 2 ≤ length b.now }
+    requires enough { 1 ≤ length b.now }
     requires few { length b.now ≤ 8 }
     requires word { IsWordOf word a.now }
     requires other { IsWordOf other b.now }
@@ -218,22 +204,6 @@ fn equal_by_eights(a: &[u8], b: &[u8]) -> bool
 {
     let behind = a.len() - 8;
     equal_by_fours(&a[..8], &b[..8]) && equal_by_fours(&a[behind..], &b[behind..])
-}
-
-/// The first two bytes.
-fn first_two(text: &[u8]) -> &[u8; 2]
-    requires { 2 ≤ length text.now }
-    ensures { result.now ≡ take 2 text.now }
-{
-    text.first_chunk().unwrap()
-}
-
-/// The last two bytes.
-fn last_two(text: &[u8]) -> &[u8; 2]
-    requires { 2 ≤ length text.now }
-    ensures { result.now ≡ drop (length text.now - 2) text.now }
-{
-    text.last_chunk().unwrap()
 }
 
 /// The first four bytes.

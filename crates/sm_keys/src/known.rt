@@ -1,8 +1,10 @@
 //! Names that are known, read from a line without a look at each byte.
 
-ghost use Rattle.std.specs.Prelude.{◌≡◌, ◌+◌, ◌-◌, ◌<◌, ◌≤◌, length, vec_len, vec_capacity, IfSome};
+ghost use Rattle.std.specs.Prelude.{◌≡◌, ◌+◌, ◌-◌, ◌<◌, ◌≤◌, length, take, drop, vec_len, vec_capacity, IfSome};
+ghost use Rattle.std.specs.Int.{from_le_bytes, w64};
 ghost use Rattle.sm_keys.specs.Lines.{IsNamed, IsNameAt, ListsLineFurther};
 ghost use Rattle.sm_keys.specs.Keys.{key_texts};
+ghost use Rattle.sm_keys.specs.Words.{HasWord};
 
 use crate::key::Key;
 use crate::recent::Recent;
@@ -61,7 +63,7 @@ pub(crate) fn begins_short(line: &[u8]) -> bool {
     if line.len() <= at || line.len() - at <= 8 {
         return true;
     }
-    guessed_len(line, at) < 8 || line[at + 8] == b' '
+    guessed_len(eight_from(line, at)) < 8 || line[at + 8] == b' '
 }
 
 /// The index of the name that stands at a place before the last eight bytes with one blank behind it, and the place behind the
@@ -74,8 +76,9 @@ fn name_at(known: Known<'_, '_>, line: &[u8], at: usize, last: usize) -> Option<
     if at >= last {
         return None;
     }
-    let len = guessed_len(line, at);
-    let index = index_of(known, &line[at..at + len])?;
+    let first = eight_from(line, at);
+    let len = guessed_len(first);
+    let index = index_of(known, &line[at..at + len], first)?;
     if line[at + len] == b' ' {
         Some((index, at + len + 1))
     } else {
@@ -83,14 +86,14 @@ fn name_at(known: Known<'_, '_>, line: &[u8], at: usize, last: usize) -> Option<
     }
 }
 
-/// How many of the next eight bytes stand before the first that may be a blank. The lowest byte that is marked is the first below 33,
-/// and nothing needs this to be so. The bytes are named one by one, since they are read at once then, without a test of their number.
+/// The number that the next eight bytes make, the first one least. They are named one by one, since they are read at once then,
+/// without a test of their number.
 #[inline(always)]
-fn guessed_len(line: &[u8], at: usize) -> usize
+fn eight_from(line: &[u8], at: usize) -> u64
     requires { at + 8 ≤ length line.now }
-    ensures { result ≤ 8 }
+    ensures { result ≡ from_le_bytes w64 (take 8 (drop at line.now)) }
 {
-    let word = u64::from_le_bytes([
+    u64::from_le_bytes([
         line[at],
         line[at + 1],
         line[at + 2],
@@ -99,41 +102,41 @@ fn guessed_len(line: &[u8], at: usize) -> usize
         line[at + 5],
         line[at + 6],
         line[at + 7],
-    ]);
-    let marked = word.wrapping_sub(BEHIND_BLANK) & !word & HIGHEST;
+    ])
+}
+
+/// How many of eight bytes stand before the first that may be a blank. The lowest byte that is marked is the first below 33, and nothing
+/// needs this to be so.
+#[inline(always)]
+fn guessed_len(first: u64) -> usize
+    ensures { result ≤ 8 }
+{
+    let marked = first.wrapping_sub(BEHIND_BLANK) & !first & HIGHEST;
     (marked.trailing_zeros() >> 3) as usize
 }
 
-/// The index of two to eight bytes that are a name, where they have one of the two that are guessed.
+/// The index of bytes that are a name, where they have one of the two that are guessed. `first` is the number that they make with
+/// those behind them, eight in all.
 #[inline(always)]
-fn index_of(known: Known<'_, '_>, name: &[u8]) -> Option<u32>
+fn index_of(known: Known<'_, '_>, name: &[u8], first: u64) -> Option<u32>
+    requires few { length name.now ≤ 8 }
+    requires first { HasWord first name.now }
     ensures { IfSome result (IsNamed (key_texts known.entry.names.now) name.now) }
 {
-    match name.len() {
-        2..=4 => index_by(known, Key::two_to_four(name)),
-        5..=8 => index_by(known, Key::five_to_eight(name)),
-        _ => None,
+    if name.is_empty() {
+        return None;
     }
-}
-
-/// The same by a key.
-#[inline(always)]
-fn index_by(known: Known<'_, '_>, key: Key<'_>) -> Option<u32>
-    requires enough { 2 ≤ length key.text.now }
-    requires few { length key.text.now ≤ 8 }
-    ensures { IfSome result (IsNamed (key_texts known.entry.names.now) key.entry.text.now) }
-{
-    let len = key.text.len();
-    match index_at(known, key, known.recent.guess(key.word, len)) {
+    let key = Key::beginning(name, first);
+    match index_at(known, key, known.recent.guess(key.word, name.len())) {
         Some(index) => Some(index),
-        None => index_at(known, key, known.recent.second_guess(key.word, len)),
+        None => index_at(known, key, known.recent.second_guess(key.word, name.len())),
     }
 }
 
 /// An index, if it is that of these bytes and they are a name.
 #[inline(always)]
 fn index_at(known: Known<'_, '_>, key: Key<'_>, index: u32) -> Option<u32>
-    requires enough { 2 ≤ length key.text.now }
+    requires enough { 1 ≤ length key.text.now }
     requires few { length key.text.now ≤ 8 }
     ensures { IfSome result (IsNamed (key_texts known.entry.names.now) key.entry.text.now) }
 {

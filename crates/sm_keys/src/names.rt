@@ -410,24 +410,12 @@ fn list_next(
     }
 }
 
-/// The index that a name is guessed to have, where the name has it. Names of two to four and of five to eight bytes have paths
-/// of their own, so that each knows how its names are compared.
+/// The index that a name is guessed to have, where the name has it.
 #[inline(always)]
 fn guessed(recent: &Recent, names: &[Key<'_>], name: &[u8]) -> Option<u32>
     ensures { IfSome result (IsAt (key_texts names.now) name.now) }
 {
-    match name.len() {
-        2..=4 => guessed_key(recent, names, Key::two_to_four(name)),
-        5..=8 => guessed_key(recent, names, Key::five_to_eight(name)),
-        _ => guessed_key(recent, names, Key::of(name)),
-    }
-}
-
-/// The index that is guessed by the word of a name, where the name has it.
-#[inline(always)]
-fn guessed_key(recent: &Recent, names: &[Key<'_>], name: Key<'_>) -> Option<u32>
-    ensures { IfSome result (IsAt (key_texts names.now) name.entry.text.now) }
-{
+    let name = Key::of(name);
     let guess = recent.guess(name.word, name.text.len());
     if has_index(names, name, guess) {
         Some(guess)
