@@ -10,7 +10,7 @@ use Rattle.sm_instance.specs.Written.{Written, row, entry, place_of, capacity_of
 use Rattle.sm_instance.specs.Sound.{IsInstance}
 use Rattle.sm_instance.specs.Matching.{held, leads_to, is_at, load_before, load, standing, IsAssignment, IsMatching}
 use Rattle.sm_instance.specs.Stable.{HasWorse, Blocks, IsStable, IsGainLimit}
-use Rattle.sm_instance.specs.Kept.{cross_place}
+use Rattle.sm_instance.specs.Crosses.{cross_place}
 use Rattle.sm_instance.proofs.ListLemmas.{row_in_range}
 use Rattle.sm_instance.proofs.PlaceLemmas.{place_of-entry}
 use Rattle.sm_instance.proofs.AcceptLemmas.{cross_some, accepts_at, one_sided_at}

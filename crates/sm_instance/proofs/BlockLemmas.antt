@@ -1,18 +1,20 @@
 -- The first blocking pair.
-use Rattle.std.proofs.Common.{◌≡◌, ℕ, ◌+◌, ◌<◌, ◌≤◌, ◌⊎◌, cond, Bool, true, false, List, Option, Some, None, MatchOption, length, refl, sym, ap, subst, ◌∙◌, arith, ⊎_elim, inl, inr}
+use Rattle.std.proofs.Common.{◌≡◌, ℕ, ◌+◌, ◌<◌, ◌≤◌, ◌⊎◌, cond, Bool, true, false, List, Option, Some, None, MatchOption, IfSome, unwrap_or, length, refl, sym, ap, subst, ◌∙◌, arith, ⊎_elim, inl, inr}
 use Rattle.std.proofs.lemmas.Bool.{cases_lt}
 use Rattle.std.proofs.lemmas.Bool.Decides.{nat_tests}
 use Rattle.sm_instance.specs.Written.{Written, row, entry, place_of}
 use Rattle.sm_instance.specs.Sound.{IsInstance}
-use Rattle.sm_instance.specs.Matching.{standing, IsMatching}
+use Rattle.sm_instance.specs.Matching.{held, standing, IsAssignment, IsMatching}
 use Rattle.sm_instance.specs.Stable.{Blocks, IsStable, IsFirstBlocking, IsGainLimit}
-use Rattle.sm_instance.specs.Kept.{naming_at, AreNamingsOf, cross_place}
+use Rattle.sm_lists.specs.CompactNamings.{naming_at}
+use Rattle.sm_instance.specs.Crosses.{cross_place}
+use Rattle.sm_instance.specs.Namings.{AreAskedOf}
 use Rattle.sm_instance.specs.Loads.{IsFirstBlockingWith, IsFirstPairBelow, IsFirstBelow, is_sooner, sooner_of}
 use Rattle.sm_lists.specs.declared.compact_naming.CompactNaming.{CompactNaming}
 use Rattle.sm_instance.proofs.ListLemmas.{row_in_range}
 use Rattle.sm_instance.proofs.PlaceLemmas.{place_of-entry}
 use Rattle.sm_lists.proofs.PlaceLemmas.{get_or-place_on}
-use Rattle.sm_instance.proofs.AcceptLemmas.{cross_some}
+use Rattle.sm_instance.proofs.AcceptLemmas.{cross_some, held_on}
 
 -- whether p and the reviewer at place i block, by the place of p on the other list
 pub blocks_by : {w : Written} {places : List (Option ℕ)} → IsInstance w → (p i k limit : ℕ) → i < length (row w.proposers p) → Some k ≡ cross_place w.reviewers (entry w.proposers p i) p → IsGainLimit w places (entry w.proposers p i) limit
@@ -27,8 +29,16 @@ blocks_by {w} {places} inst p i k limit on cross gain =
       λ h. (⊎_elim (λ l. l) (λ g. absurd (gain.others p listed (omega arith) h.reviewer_gains)) (cases_lt k limit), let b = h.proposer_gains in omega arith),
     )
 
+-- how a proposer stands is no more than the length of its list
+pub standing-le : {w : Written} {places : List (Option ℕ)} → IsAssignment w places → (p : ℕ) → standing w places p ≤ length (row w.proposers p)
+standing-le {w} {places} assigned p = by_held (held places p) (held_on assigned p (held places p) refl)
+  where
+    by_held : (o : Option ℕ) → IfSome o (λ i. i < length (row w.proposers p)) → unwrap_or o (length (row w.proposers p)) ≤ length (row w.proposers p)
+    by_held None h = omega arith
+    by_held (Some i) h = omega arith
+
 -- who blocks with r names it
-pub blocking_named : {w : Written} {places : List (Option ℕ)} {r : ℕ} {all : List CompactNaming} → AreNamingsOf w.proposers r all → (e : ℕ) → e ≤ length all → ((f : ℕ) → f < e → ¬ Blocks w places (naming_at all f).by r)
+pub blocking_named : {w : Written} {places : List (Option ℕ)} {r : ℕ} {all : List CompactNaming} → AreAskedOf w.proposers r all → (e : ℕ) → e ≤ length all → ((f : ℕ) → f < e → ¬ Blocks w places (naming_at all f).by r)
     → (q : ℕ) → ((f : ℕ) → e ≤ f → f < length all → q < (naming_at all f).by) → ¬ Blocks w places q r
 blocking_named {w} {places} {r} {all} named e le none q before h =
     let a = h.acceptable in
@@ -40,18 +50,17 @@ blocking_named {w} {places} {r} {all} named e le none q before h =
     (cases_lt n.at e)
 
 -- where no earlier naming of r blocks and this one does, it is the first that blocks with r
-pub first_at : {w : Written} {places : List (Option ℕ)} {r : ℕ} {all : List CompactNaming} → IsInstance w → AreNamingsOf w.proposers r all → (e : ℕ) → e < length all → ((f : ℕ) → f < e → ¬ Blocks w places (naming_at all f).by r)
-    → Blocks w places (naming_at all e).by (entry w.proposers (naming_at all e).by (naming_at all e).place) → IsFirstBlockingWith w places r (naming_at all e)
-first_at {w} {places} {r} {all} inst named e l none h =
-    let there = named.names e l in
+pub first_at : {w : Written} {places : List (Option ℕ)} {r : ℕ} {all : List CompactNaming} → AreAskedOf w.proposers r all → (e : ℕ) → e < length all → ((f : ℕ) → f < e → ¬ Blocks w places (naming_at all f).by r)
+    → Blocks w places (naming_at all e).by r → IsFirstBlockingWith w places r (naming_at all e)
+first_at {w} {places} {r} {all} named e l none h =
     record {
-      blocks = let Q : ℕ → Type 0 = λ s. Blocks w places (naming_at all e).by s in subst Q there h;
-      at = sym (place_of-entry inst.proposer_entries (naming_at all e).by r (naming_at all e).place (named.on_list e l) there);
+      blocks = h;
+      at = named.places e l;
       earlier = λ q lt. blocking_named named e (omega arith) none q (λ f ge inside. ⊎_elim (λ less. let up = named.rising e f less inside in omega arith) (λ past. let same : e ≡ f = omega arith in let s = ap (λ g. (naming_at all g).by) same in omega arith) (cases_lt e f));
     }
 
 -- where none of the namings of r blocks, nobody blocks with r
-pub none_at : {w : Written} {places : List (Option ℕ)} {r : ℕ} {all : List CompactNaming} → AreNamingsOf w.proposers r all → (e : ℕ) → length all ≡ e → ((f : ℕ) → f < e → ¬ Blocks w places (naming_at all f).by r) → (q : ℕ) → ¬ Blocks w places q r
+pub none_at : {w : Written} {places : List (Option ℕ)} {r : ℕ} {all : List CompactNaming} → AreAskedOf w.proposers r all → (e : ℕ) → length all ≡ e → ((f : ℕ) → f < e → ¬ Blocks w places (naming_at all f).by r) → (q : ℕ) → ¬ Blocks w places q r
 none_at named e whole none q = blocking_named named e (omega arith) none q (λ f ge inside. absurd (omega arith))
 
 -- the order of pairs

@@ -5,7 +5,10 @@ use Rattle.sm_text.specs.Limits.{most_agents}
 use Rattle.sm_instance.specs.Written.{Written, row, entry, place_of, capacity_of, IsAcceptable}
 use Rattle.sm_instance.specs.Sound.{IsInstance}
 use Rattle.sm_instance.specs.Matching.{held, is_at, load_before, IsAssignment, IsMatching, IsBreach, IsFirstBreach}
-use Rattle.sm_instance.specs.Kept.{naming_at, AreNamingsOf, cross_place}
+use Rattle.sm_lists.specs.CompactNamings.{naming_at}
+use Rattle.sm_instance.specs.Crosses.{cross_place}
+use Rattle.sm_instance.specs.Namings.{AreAskedOf}
+use Rattle.sm_instance.proofs.NamingLemmas.{asked_there}
 use Rattle.sm_lists.specs.Earlier.{earlier_of}
 use Rattle.sm_instance.specs.Loads.{IsFirstOf, IsUnacceptable, IsOverfull, IsOverfullBelow, IsWorst}
 use Rattle.sm_lists.specs.declared.compact_naming.CompactNaming.{CompactNaming}
@@ -123,7 +126,11 @@ accepted {w} p at h a u = let same : at ≡ u.at = (let e = u.holds in cc) in u.
 pub unmatched : {w : Written} {places : List (Option ℕ)} (p : ℕ) → (let none : Option ℕ = None in held places p ≡ none) → ¬ IsUnacceptable w places p
 unmatched p h u = let e = u.holds in cc
 
-module _ {w : Written} {places : List (Option ℕ)} {r : ℕ} {all : List CompactNaming} (i : IsInstance w) (assigned : IsAssignment w places) (named : AreNamingsOf w.proposers r all) where
+module _ {w : Written} {places : List (Option ℕ)} {r : ℕ} {all : List CompactNaming} (i : IsInstance w) (assigned : IsAssignment w places) (named : AreAskedOf w.proposers r all) where
+  -- who holds the place with which it is asked is at r
+  there : (e : ℕ) → e < length all → held places (naming_at all e).by ≡ Some (naming_at all e).place → entry w.proposers (naming_at all e).by (naming_at all e).place ≡ r
+  there e l h = asked_there named e l (naming_at all e).by (naming_at all e).place refl refl (assigned.on_lists (naming_at all e).by (naming_at all e).place h)
+
   -- numbers that rise are no smaller than their places
   pub rising_ge : (e : ℕ) → e < length all → e ≤ (naming_at all e).by
   rising_ge zero l = omega arith
@@ -131,14 +138,14 @@ module _ {w : Written} {places : List (Option ℕ)} {r : ℕ} {all : List Compac
 
   -- nobody is named by more agents than there may be
   pub few_named : (e : ℕ) → e < length all → e < most_agents
-  few_named e l = let ge = rising_ge e l in let lt = row_in_range w.proposers (naming_at all e).by (naming_at all e).place (named.on_list e l) in let few = i.limits.proposers in omega arith
+  few_named e l = let ge = rising_ge e l in let lt = named.in_range e l in let few = i.limits.proposers in omega arith
 
   -- the first that finds r full
   pub overfull_first : {e count : ℕ} → IsCounted w places r all e count → e < length all → held places (naming_at all e).by ≡ Some (naming_at all e).place → count ≡ capacity_of w.reviewers r
       → IsFirstOf (IsOverfull w places r) (Some (naming_at all e).by)
   overfull_first {e} {count} c l h full =
       let load = load_next assigned i.proposer_entries named c l in (
-        record { at = (naming_at all e).place; holds = h; there = named.names e l; full = omega arith },
+        record { at = (naming_at all e).place; holds = h; there = there e l h; full = omega arith },
         λ q lt o. overfull_passes o (naming_at all e).by lt (omega arith),
       )
 
@@ -153,7 +160,7 @@ module _ {w : Written} {places : List (Option ℕ)} {r : ℕ} {all : List Compac
   pub worst_more : {e worst : ℕ} → IsWorstSoFar w places r all e worst → e < length all → held places (naming_at all e).by ≡ Some (naming_at all e).place
       → (k : ℕ) → Some k ≡ cross_place w.reviewers (entry w.proposers (naming_at all e).by (naming_at all e).place) (naming_at all e).by → IsWorstSoFar w places r all (e + 1) (max worst k)
   worst_more {e} {worst} s l h k cross =
-      let there = named.names e l in
+      let there = there e l h in
       let place : place_of w.reviewers r (naming_at all e).by ≡ k = ap (λ t. place_of w.reviewers t (naming_at all e).by) (sym there) ∙ (cross_some w.reviewers _ _ k (sym cross)).0 in
       record {
         above = λ f lt g. ⊎_elim (λ less. let a = s.above f less g in omega arith) (λ ge. let same : f ≡ e = omega arith in let q = ap (λ t. place_of w.reviewers r (naming_at all t).by) same in omega arith) (cases_lt f e);

@@ -14,8 +14,8 @@ use Rattle.sm_lists.specs.declared.naming.Naming.{Naming as Known}
 use Rattle.sm_text.specs.Limits.{most_agents, most_entries}
 use Rattle.sm_instance.specs.Written.{AgentData, no_agent, row, entry, lists_of}
 use Rattle.sm_instance.specs.Sound.{AreSoundEntries, entries_of}
-use Rattle.sm_instance.specs.Crosses.{AreCrossPlaces}
-use Rattle.sm_instance.specs.Kept.{no_naming, naming_at, AreNamingsOf, AreNamings}
+use Rattle.sm_instance.specs.Crosses.{AreCrossPlaces, AreNamingsOf, AreNamings}
+use Rattle.sm_lists.specs.CompactNamings.{no_naming, naming_at}
 use Rattle.sm_lists.specs.declared.compact_naming.CompactNaming.{CompactNaming}
 use Rattle.sm_instance.proofs.PlaceLemmas.{length-row-le-others}
 use Rattle.sm_instance.proofs.ListLemmas.{row_in_range}
@@ -115,42 +115,6 @@ pub namings_known : {agents : List AgentData} {others : ℕ} (namings : List (Li
 namings_known {agents} {others} namings sound n = record {
   one_each = sym (length-map namings (map wide)) ∙ n.one_each;
   of = λ r l. of_known (get_or namings r []) sound (subst (AreKnownOf (lists_of agents) (length (lists_of agents)) 0 r) (get_or-map_all (map wide) namings r []) (n.of r l));
-}
-
--- the namings of agents are those of their lists
-to_known : {agents : List AgentData} {r : ℕ} (all : List CompactNaming) → AreNamingsOf agents r all → AreKnownOf (lists_of agents) (length (lists_of agents)) 0 r (map wide all)
-to_known {agents} {r} all n =
-    let long = length-map all wide in
-    let many = length-map agents (λ (x : AgentData). x.entries) in
-    let read : (e : ℕ) → naming_known (map wide all) e ≡ wide (naming_at all e) = λ e. get_or-map_all wide all e no_naming in
-    let by : (e : ℕ) → (naming_known (map wide all) e).by ≡ (naming_at all e).by = λ e. ap (λ (y : Known). y.by) (read e) in
-    let below : (e : ℕ) → e < length all → (naming_at all e).by < length agents = λ e l. row_in_range agents (naming_at all e).by (naming_at all e).place (n.on_list e l) in
-    record {
-      on_list = λ e l.
-          let P : Known → Type 0 = λ y. y.place < length (row_at (lists_of agents) y.by) in
-          let on = n.on_list e (omega arith) in
-          let same = ap length (row-lists_of agents (naming_at all e).by) in
-          subst P (sym (read e)) (let lt : P (wide (naming_at all e)) = omega arith in lt);
-      names = λ e l.
-          let P : Known → Type 0 = λ y. entry_at (lists_of agents) y.by y.place ≡ r in
-          subst P (sym (read e)) (ap (λ list. get_or list (naming_at all e).place 0) (row-lists_of agents (naming_at all e).by) ∙ n.names e (omega arith));
-      reached = λ e l. let lt = below e (omega arith) in let is = by e in omega arith;
-      here = λ e l last. let lt = below e (omega arith) in let is = by e in absurd (omega arith);
-      rising = λ e f less l. let lt = n.rising e f less (omega arith) in let a = by e in let b = by f in omega arith;
-      ordered = λ e f less l same. let lt = n.rising e f less (omega arith) in let a = by e in let b = by f in absurd (omega arith);
-      earlier_named = λ p i before on is.
-          let same = ap length (row-lists_of agents p) in
-          let w = n.named p i (omega arith) (ap (λ list. get_or list i 0) (sym (row-lists_of agents p)) ∙ is) in
-          record { at = w.at; there = let l = w.there in omega arith; by = by w.at ∙ w.by; place = ap (λ (y : Known). y.place) (read w.at) ∙ w.place };
-      here_named = λ i before. absurd (omega arith);
-    }
-
--- the namings of agents are those of plain lists
-pub known_namings : {agents : List AgentData} {others : ℕ} (namings : List (List CompactNaming)) → AreNamings agents others namings
-    → AreKnown (lists_of agents) others (length (lists_of agents)) 0 (held_in (λ (n : CompactNaming). record { by = n.by; place = n.place }) namings)
-known_namings {agents} {others} namings n = record {
-  one_each = length-map namings (map wide) ∙ n.one_each;
-  of = λ r l. subst (AreKnownOf (lists_of agents) (length (lists_of agents)) 0 r) (sym (get_or-map_all (map wide) namings r [])) (to_known (get_or namings r []) (n.of r l));
 }
 
 -- what is short enough for a number is so for a greater one

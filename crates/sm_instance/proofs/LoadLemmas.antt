@@ -1,16 +1,17 @@
 -- How many proposers a reviewer has: those who name it, one after another.
-use Rattle.std.proofs.Common.{◌≡◌, ℕ, zero, suc, ◌+◌, ◌<◌, ◌≤◌, ◌⊎◌, ◌++◌, ◌∷◌, [], cond, Bool, true, false, List, Option, Some, None, length, map, sum, refl, sym, ap, ◌∙◌, arith, ⊎_elim, inl, inr}
+use Rattle.std.proofs.Common.{◌≡◌, ℕ, zero, suc, ◌+◌, ◌<◌, ◌≤◌, ◌⊎◌, ◌++◌, ◌∷◌, [], cond, Bool, true, false, List, Option, Some, None, length, map, sum, refl, sym, ap, subst, ◌∙◌, arith, ⊎_elim, inl, inr}
 use Rattle.std.proofs.lemmas.Bool.{eqb-true, eq-eqb, cases_lt}
 use Rattle.std.proofs.lemmas.List.FromFn.{map-range_with_len_more}
 use Rattle.std.proofs.lemmas.List.Sums.{fold-append}
 use Rattle.std.specs.List.{range_with_len}
-use Rattle.sm_instance.specs.Written.{Written, row, entry, place_of}
+use Rattle.sm_instance.specs.Written.{Written, entry, place_of}
 use Rattle.sm_instance.specs.Sound.{AreSoundEntries}
 use Rattle.sm_instance.specs.Matching.{held, leads_to, is_at, load_before, load, IsAssignment}
 use Rattle.sm_instance.specs.Stable.{HasWorse}
-use Rattle.sm_instance.specs.Kept.{naming_at, IsNamed, AreNamingsOf}
+use Rattle.sm_lists.specs.CompactNamings.{naming_at, IsNamed}
+use Rattle.sm_instance.specs.Namings.{AreAskedOf}
 use Rattle.sm_lists.specs.declared.compact_naming.CompactNaming.{CompactNaming}
-use Rattle.sm_instance.proofs.ListLemmas.{row_in_range}
+use Rattle.sm_instance.proofs.NamingLemmas.{asked_there}
 use Rattle.sm_instance.proofs.PlaceLemmas.{place_of-entry}
 
 sum_push : (xs : List ℕ) (x : ℕ) → sum (xs ++ x ∷ []) ≡ sum xs + x
@@ -55,18 +56,21 @@ place_at w p r (Some i) h = (i, refl, eqb-true _ _ h)
 pub at_place : (w : Written) (places : List (Option ℕ)) (p r i : ℕ) → held places p ≡ Some i → entry w.proposers p i ≡ r → is_at w places p r ≡ true
 at_place w places p r i h there = ap (leads_to w p r) h ∙ eq-eqb _ _ there
 
--- who doesn't hold the place at which it names r isn't at r
-pub not_at : (w : Written) (places : List (Option ℕ)) (p r i : ℕ) → IsAssignment w places → AreSoundEntries w.proposers (length w.reviewers) → i < length (row w.proposers p) → entry w.proposers p i ≡ r
+-- who doesn't hold the place of r on its list isn't at r
+pub not_at : (w : Written) (places : List (Option ℕ)) (p r i : ℕ) → IsAssignment w places → AreSoundEntries w.proposers (length w.reviewers) → i ≡ place_of w.proposers p r
     → (held places p ≡ Some i → ⊥) → is_at w places p r ≡ false
-not_at w places p r i assigned sound on there other =
+not_at w places p r i assigned sound place other =
     ⊎_elim
     (λ at. let x = place_at w p r (held places p) at in
-    let a = place_of-entry sound p r i on there in
     let b = place_of-entry sound p r x.0 (assigned.on_lists p x.0 x.1) x.2 in
-    let same : x.0 ≡ i = sym b ∙ a in
+    let same : x.0 ≡ i = sym b ∙ sym place in
     absurd (other (x.1 ∙ ap Some same)))
     (λ no. no)
     (test_cases (is_at w places p r))
+
+-- what is held with a naming is held with the same naming
+pub held_by : {m n : CompactNaming} → m ≡ n → (places : List (Option ℕ)) → held places m.by ≡ Some m.place → held places n.by ≡ Some n.place
+held_by is places h = let Q : CompactNaming → Type 0 = λ n. held places n.by ≡ Some n.place in subst Q is h
 
 -- so many of the first e that name r are at it: where all of these are below k, and no other is, this is the load before k
 pub record IsCounted (w : Written) (places : List (Option ℕ)) (r : ℕ) (all : List CompactNaming) (e count : ℕ) : Type 0 where
@@ -77,7 +81,7 @@ pub record IsWorstSoFar (w : Written) (places : List (Option ℕ)) (r : ℕ) (al
   pub above : (f : ℕ) → f < e → held places (naming_at all f).by ≡ Some (naming_at all f).place → place_of w.reviewers r (naming_at all f).by ≤ worst
   pub attained : (p : ℕ) → place_of w.reviewers r p < worst → HasWorse w places r p
 
-module _ {w : Written} {places : List (Option ℕ)} {r : ℕ} {all : List CompactNaming} (assigned : IsAssignment w places) (sound : AreSoundEntries w.proposers (length w.reviewers)) (named : AreNamingsOf w.proposers r all) where
+module _ {w : Written} {places : List (Option ℕ)} {r : ℕ} {all : List CompactNaming} (assigned : IsAssignment w places) (sound : AreSoundEntries w.proposers (length w.reviewers)) (named : AreAskedOf w.proposers r all) where
   -- whoever is at r names it
   pub named_at : (q : ℕ) → is_at w places q r ≡ true → (i : ℕ) × (held places q ≡ Some i) × IsNamed all q i
   named_at q at =
@@ -120,7 +124,7 @@ module _ {w : Written} {places : List (Option ℕ)} {r : ℕ} {all : List Compac
   counted_yes {e} {count} c l h =
       record {
         is = λ k before behind. load_behind e k l before behind
-            ∙ load_before-suc_at w places (naming_at all e).by r (at_place w places (naming_at all e).by r (naming_at all e).place h (named.names e l))
+            ∙ load_before-suc_at w places (naming_at all e).by r (at_place w places (naming_at all e).by r (naming_at all e).place h (asked_there named e l (naming_at all e).by (naming_at all e).place refl refl (assigned.on_lists (naming_at all e).by (naming_at all e).place h)))
             ∙ ap (λ n. n + 1) (load_next c l);
       }
 
@@ -129,13 +133,10 @@ module _ {w : Written} {places : List (Option ℕ)} {r : ℕ} {all : List Compac
   counted_no {e} {count} c l h =
       record {
         is = λ k before behind. load_behind e k l before behind
-            ∙ load_before-suc_other w places (naming_at all e).by r (not_at w places (naming_at all e).by r (naming_at all e).place assigned sound (named.on_list e l) (named.names e l) h)
+            ∙ load_before-suc_other w places (naming_at all e).by r (not_at w places (naming_at all e).by r (naming_at all e).place assigned sound (named.places e l) h)
             ∙ load_next c l;
       }
 
-  by_in_range : (f : ℕ) → f < length all → (naming_at all f).by < length w.proposers
-  by_in_range f l = row_in_range w.proposers (naming_at all f).by (naming_at all f).place (named.on_list f l)
-
   -- what is counted over all namings of r is its load
   pub counted_end : {e count : ℕ} → IsCounted w places r all e count → length all ≡ e → load w places r ≡ count
-  counted_end {e} {count} c whole = c.is (length w.proposers) (λ f l. by_in_range f (omega arith)) (λ f le l. absurd (omega arith))
+  counted_end {e} {count} c whole = c.is (length w.proposers) (λ f l. named.in_range f (omega arith)) (λ f le l. absurd (omega arith))

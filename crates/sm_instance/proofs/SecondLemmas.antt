@@ -15,7 +15,6 @@ use Rattle.sm_instance.specs.Written.{Written, weighed, is_same_pair, weight_num
 use Rattle.sm_instance.specs.Sound.{IsPairOf, IsInstance}
 use Rattle.sm_instance.specs.Faults.{IsSecondOf, IsSoundSecond, IsSecondFault}
 use Rattle.sm_instance.specs.Kept.{IsKept}
-use Rattle.sm_lists.specs.declared.compact_naming.CompactNaming.{CompactNaming}
 use Rattle.sm_instance.specs.declared.names.NameTables.{NameTables}
 use Rattle.sm_instance.specs.declared.crosses.Crosses.{Crosses}
 use Rattle.sm_instance.specs.Checks.{IsGivenBefore, AreGiven, IsGivenFault}
@@ -182,12 +181,11 @@ with_seconds i seconds each small = record {
 }
 
 -- what is kept beside an instance stays with other second weights
-pub kept_with_seconds : {w : Written} {namings : List (List CompactNaming)} {pairs : List (ℕ × ℕ)} {crosses : Option Crosses} {names : Option NameTables} → IsKept w namings pairs crosses names
-    → (seconds : List ℤ) → length seconds ≡ length w.weights → All (λ s. unsigned_abs s ≤ most_weight) seconds → IsKept (record w { seconds = seconds }) namings pairs crosses names
+pub kept_with_seconds : {w : Written} {pairs : List (ℕ × ℕ)} {crosses : Option Crosses} {names : Option NameTables} → IsKept w pairs crosses names
+    → (seconds : List ℤ) → length seconds ≡ length w.weights → All (λ s. unsigned_abs s ≤ most_weight) seconds → IsKept (record w { seconds = seconds }) pairs crosses names
 kept_with_seconds k seconds each small = record {
   instance = with_seconds k.instance seconds each small;
   few = k.few;
-  named = k.named;
   weighed_pairs = k.weighed_pairs;
   crossed = k.crossed;
   tables = k.tables;

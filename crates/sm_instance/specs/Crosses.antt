@@ -1,6 +1,8 @@
--- Cross places: where each agent stands on the lists of those whom it names.
+-- Cross places: where each agent stands on the lists of those whom it names, and who names each reviewer.
 use Rattle.std.specs.Prelude.{◌≡◌, ℕ, ◌<◌, List, [], Option, None, length, slice_index_or, IfSome}
 use Rattle.sm_lists.specs.Crosses.{found_on}
+use Rattle.sm_lists.specs.CompactNamings.{naming_at, IsNamed}
+use Rattle.sm_lists.specs.declared.compact_naming.CompactNaming.{CompactNaming}
 use Rattle.sm_instance.specs.Written.{AgentData, Written, row, entry}
 use Rattle.sm_instance.specs.Sound.{IsInstance}
 use Rattle.sm_instance.specs.declared.crosses.Crosses.{Crosses}
@@ -21,10 +23,23 @@ pub record AreCrossPlaces (agents others : List AgentData) (crosses : List (List
   pub one_each : length crosses ≡ length agents
   pub of : (a : ℕ) → a < length agents → AreCrossPlacesOf agents others a (slice_index_or crosses a [])
 
--- the same for both sides
+-- who names r, by rising number and with the place
+pub record AreNamingsOf (agents : List AgentData) (r : ℕ) (namings : List CompactNaming) : Type 0 where
+  pub on_list : (e : ℕ) → e < length namings → (naming_at namings e).place < length (row agents (naming_at namings e).by)
+  pub names : (e : ℕ) → e < length namings → entry agents (naming_at namings e).by (naming_at namings e).place ≡ r
+  pub rising : (e f : ℕ) → e < f → f < length namings → (naming_at namings e).by < (naming_at namings f).by
+  pub named : (p i : ℕ) → i < length (row agents p) → entry agents p i ≡ r → IsNamed namings p i
+
+-- the same for each agent of the other side
+pub record AreNamings (agents : List AgentData) (others : ℕ) (namings : List (List CompactNaming)) : Type 0 where
+  pub one_each : length namings ≡ others
+  pub of : (r : ℕ) → r < others → AreNamingsOf agents r (slice_index_or namings r [])
+
+-- the cross places of both sides, and who names each reviewer
 pub record AreCrossesOf (proposers reviewers : List AgentData) (crosses : Crosses) : Type 0 where
   pub there : AreCrossPlaces proposers reviewers crosses.proposers
   pub back : AreCrossPlaces reviewers proposers crosses.reviewers
+  pub named : AreNamings proposers (length reviewers) crosses.namings
 
 -- cross places that are lent, or were made
 abbrev pub crosses_lent : LentCrosses → Crosses

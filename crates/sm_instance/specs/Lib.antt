@@ -10,6 +10,7 @@ pub mod Checks
 pub mod Vectors
 pub mod Crosses
 pub mod Kept
+pub mod Namings
 pub mod Inputs
 pub mod Named
 pub mod Loads

@@ -78,8 +78,10 @@ impl Instance {
         let limit = self.gain_limit(a, r);
         let namings = self.namings_of(r);
         for e in 0..namings.len() {
-            let naming = namings[e];
-            if self.blocks_at(a, u32::from(naming.by), u32::from(naming.place), limit) {
+            let naming = namings.at(e);
+            let p = u32::from(naming.by);
+            let place = u32::from(naming.place);
+            if place < self.standing(a, p) && self.blocks_at(a, p, place, limit) {
                 return Some(naming);
             }
         }

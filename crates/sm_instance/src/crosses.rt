@@ -5,7 +5,6 @@ ghost use Rattle.sm_lists.specs.Rows.{lists_in};
 ghost use Rattle.sm_instance.specs.Sound.{IsWithinLimits, AreSoundEntries};
 ghost use Rattle.sm_instance.specs.Written.{lists_of};
 ghost use Rattle.sm_instance.specs.Crosses.{AreCrossesOf, crosses_lent};
-ghost use Rattle.sm_instance.specs.Kept.{AreNamings};
 ghost use Rattle.sm_instance.specs.Vectors.{agents_of};
 
 use crate::agents::Agent;
@@ -13,9 +12,10 @@ use sm_lists::{CompactNaming, Cross, CrossPlaces, Packed, cross_places, namings}
 use std::alloc::{AllocError, Global};
 
 /// For each place of each list of an instance, the place of the list's owner on the list of the agent there; none where it isn't
-/// on it, so that the entry is inert.
+/// on it, so that the entry is inert. And who names each reviewer, by rising number and with the place.
 #[derive(Drop)]
 pub struct Crosses {
+    namings: Packed<CompactNaming>,
     proposers: Packed<Cross>,
     reviewers: Packed<Cross>,
 }
@@ -35,6 +35,14 @@ impl Crosses {
         ensures { result.now ≡ slice_index_or self.now.reviewers r [] }
     {
         self.reviewers.at(r)
+    }
+
+    /// Who names a reviewer. Takes constant time.
+    pub(crate) fn namings_of(&self, r: u32) -> &[CompactNaming]
+        requires { r < length self.now.namings }
+        ensures { result.now ≡ slice_index_or self.now.namings r [] }
+    {
+        self.namings.at(r)
     }
 }
 
@@ -57,70 +65,28 @@ impl<'a> LentCrosses<'a> {
     }
 }
 
-/// Who names each reviewer.
-pub(crate) fn find_namings(
-    alloc: Global,
-    proposers: &[Agent],
-    reviewers: &[Agent],
-) -> Result<Packed<CompactNaming>, AllocError>
-    requires limits { IsWithinLimits (agents_of proposers.now) (agents_of reviewers.now) }
-    requires proposers { AreSoundEntries (agents_of proposers.now)
-        (length (agents_of reviewers.now)) }
-    requires reviewers { AreSoundEntries (agents_of reviewers.now)
-        (length (agents_of proposers.now)) }
-    ensures { IfOk result (λ n. AreNamings (agents_of proposers.now)
-        (length (agents_of reviewers.now)) n) }
-{
-    let proposers = lists(alloc, proposers)?;
-    let reviewers = lists(alloc, reviewers)?;
-    let found = namings(alloc, &proposers, &reviewers)?;
-    Ok(found)
-}
-
-/// The cross places of both sides' lists, by who names each reviewer.
+/// Who names each reviewer, and the cross places of both sides' lists.
 pub(crate) fn find_crosses(
     alloc: Global,
     proposers: &[Agent],
     reviewers: &[Agent],
-    namings: &Packed<CompactNaming>,
 ) -> Result<Crosses, AllocError>
     requires limits { IsWithinLimits (agents_of proposers.now) (agents_of reviewers.now) }
     requires proposers { AreSoundEntries (agents_of proposers.now)
         (length (agents_of reviewers.now)) }
     requires reviewers { AreSoundEntries (agents_of reviewers.now)
         (length (agents_of proposers.now)) }
-    requires namings { AreNamings (agents_of proposers.now) (length (agents_of reviewers.now))
-        namings.now }
     ensures { IfOk result (λ c. AreCrossesOf (agents_of proposers.now) (agents_of reviewers.now) c) }
 {
     let proposers = lists(alloc, proposers)?;
     let reviewers = lists(alloc, reviewers)?;
-    let CrossPlaces { rows, others } = cross_places(alloc, &proposers, &reviewers, namings)?;
+    let found = namings(alloc, &proposers, &reviewers)?;
+    let CrossPlaces { rows, others } = cross_places(alloc, &proposers, &reviewers, &found)?;
     Ok(Crosses {
+        namings: found,
         proposers: rows,
         reviewers: others,
     })
-}
-
-/// Who names each reviewer, and the cross places of both sides' lists.
-pub(crate) fn namings_and_crosses(
-    alloc: Global,
-    proposers: &[Agent],
-    reviewers: &[Agent],
-) -> Result<(Packed<CompactNaming>, Crosses), AllocError>
-    requires limits { IsWithinLimits (agents_of proposers.now) (agents_of reviewers.now) }
-    requires proposers { AreSoundEntries (agents_of proposers.now)
-        (length (agents_of reviewers.now)) }
-    requires reviewers { AreSoundEntries (agents_of reviewers.now)
-        (length (agents_of proposers.now)) }
-    ensures namings { IfOk result (λ found. AreNamings (agents_of proposers.now)
-        (length (agents_of reviewers.now)) found.0) }
-    ensures crosses { IfOk result
-        (λ found. AreCrossesOf (agents_of proposers.now) (agents_of reviewers.now) found.1) }
-{
-    let namings = find_namings(alloc, proposers, reviewers)?;
-    let crosses = find_crosses(alloc, proposers, reviewers, &namings)?;
-    Ok((namings, crosses))
 }
 
 /// The agents' lists, lent one by one.

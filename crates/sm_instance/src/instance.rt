@@ -10,29 +10,32 @@ ghost use Rattle.sm_instance.specs.Ranks.{HasSeconds};
 ghost use Rattle.sm_instance.specs.Sound.{IsInstance};
 ghost use Rattle.sm_lists.specs.EachOnce.{IsEachOnce};
 ghost use Rattle.sm_instance.specs.Crosses.{cross_place, AreCrossesOf, crosses_lent};
-ghost use Rattle.sm_instance.specs.Kept.{AreNamingsOf, AreNamesOf, IsKept};
+ghost use Rattle.sm_instance.specs.Namings.{AreAskedOf, asked};
+ghost use Rattle.sm_instance.specs.Kept.{AreNamesOf, IsKept};
 
 use crate::agents::{Agent, capacity_at, list_at};
 use crate::checks::{are_within_limits, checked};
-use crate::crosses::{Crosses, LentCrosses, find_crosses, find_namings, namings_and_crosses};
+use crate::crosses::{Crosses, LentCrosses, find_crosses};
 use crate::faults::InstanceFault;
 use crate::kinds::Kind;
 use crate::names::{NameTables, find_named, name_tables};
+use crate::namings::Namings;
 use crate::pairs::Pairs;
 use crate::parts::Parts;
 use crate::seconds::{checked_seconds, has_nonzero, set_seconds};
-use sm_lists::{CompactNaming, Packed, first_place, is_each_once, place_by};
+use sm_lists::{first_place, is_each_once, place_by};
 use sm_text::TextHash;
 use std::alloc::{AllocError, Global};
 use std::marker::Model;
 
 /// An instance with two sides: a marriage, or hospitals and residents.
 ///
-/// Beside what is written it keeps for each reviewer who names it. From [`Instance::keep_crosses`] on it also keeps for each place
-/// of a list the place of the list's owner on the other list, and from [`Instance::keep_names`] on tables of the names, so that
-/// no later call searches lists or agents. [`Instance::build`] keeps both from the start. The times that calls say are those of an
-/// instance that keeps both; without cross places each look at one takes time in the length of a list. It takes memory in
-/// proportion to the agents, the entries and the weights, and none for each pair of agents.
+/// From [`Instance::keep_crosses`] on it keeps, beside what is written, for each reviewer who names it and for each place of a list
+/// the place of the list's owner on the other list, and from [`Instance::keep_names`] on tables of the names, so that no later call
+/// searches lists or agents. [`Instance::build`] keeps both from the start. The times that calls say are those of an instance that
+/// keeps both. Without cross places each look at one takes time in the length of a list, and to ask who lists a reviewer takes time
+/// in proportion to all entries. It takes memory in proportion to the agents, the entries and the weights, and none for each pair of
+/// agents.
 #[derive(Drop)]
 pub struct Instance {
     kind: Kind,
@@ -43,7 +46,6 @@ pub struct Instance {
     forbidden: Vec<(u32, u32)>,
     seconds: Vec<i64>,
     order: Vec<u32>,
-    namings: Packed<CompactNaming>,
     weighed: Pairs,
     crosses: Option<Crosses>,
     names: Option<NameTables>,
@@ -62,7 +64,7 @@ impl Model for Instance {
     ghost invariant = { λ i. IsKept
         (written_with i.kind i.proposers.items i.reviewers.items i.weights.items i.forced.items
         i.forbidden.items i.seconds.items i.order.items)
-        i.namings i.weighed i.crosses i.names };
+        i.weighed i.crosses i.names };
 }
 
 impl Instance {
@@ -120,7 +122,7 @@ impl Instance {
     /// An instance of parts that are known to make one. Nothing is tried. Pairs, and names where
     /// they are kept, will be found by these hashes, which shouldn't be known to whoever chose them. Neither cross places nor
     /// names are kept: see [`Instance::keep_crosses`] and [`Instance::keep_names`]. Takes time and memory in proportion to the
-    /// agents, the entries and the items.
+    /// weights.
     ///
     /// # Errors
     ///
@@ -132,8 +134,7 @@ impl Instance {
         ensures { IfOk result (λ i. i ≡ written_in parts) }
     {
         let weighed = Pairs::of(alloc, hash, &parts.weights)?;
-        let namings = find_namings(alloc, &parts.proposers, &parts.reviewers)?;
-        Ok(of_parts(parts, namings, weighed, None, None))
+        Ok(of_parts(parts, weighed, None, None))
     }
 
     /// The kind, which is a marriage or hospitals.
@@ -394,10 +395,11 @@ impl Instance {
     fn made_crosses(&self, alloc: Global) -> Result<Crosses, AllocError>
         ensures { IfOk result (λ c. AreCrossesOf self.now.proposers self.now.reviewers c) }
     {
-        find_crosses(alloc, &self.proposers, &self.reviewers, &self.namings)
+        find_crosses(alloc, &self.proposers, &self.reviewers)
     }
 
-    /// Keeps the cross places of both sides' lists from now on. Takes what [`Instance::crosses`] takes.
+    /// Keeps the cross places of both sides' lists from now on, with who names each reviewer. Takes what [`Instance::crosses`]
+    /// takes.
     ///
     /// # Errors
     ///
@@ -443,22 +445,29 @@ impl Instance {
         }
     }
 
-    /// The place of a reviewer on a proposer's list; `None` where it isn't on it.
+    /// The place of a reviewer on a proposer's list; `None` where it isn't on it. Takes time in proportion to the logarithm of how
+    /// many list the reviewer, or in the length of the proposer's list where no cross places are kept.
     pub fn place(&self, p: u32, r: u32) -> Option<u32>
         requires proposer { p < length self.now.proposers }
         requires reviewer { r < length self.now.reviewers }
         ensures { result ≡ cross_place self.now.proposers p r }
     {
-        place_by(self.namings_of(r), p)
+        match &self.crosses {
+            Some(crosses) => place_by(crosses.namings_of(r), p),
+            None => first_place(self.proposer_list(p), r),
+        }
     }
 
-    /// Who lists a reviewer, by number and with the place.
-    pub(crate) fn namings_of(&self, r: u32) -> &[CompactNaming]
+    /// Who lists a reviewer, among others where cross places aren't kept.
+    pub(crate) fn namings_of(&self, r: u32) -> Namings<'_>
         requires { r < length self.now.reviewers }
-        ensures namings { AreNamingsOf self.now.proposers r result.now }
+        ensures namings { AreAskedOf self.now.proposers r (asked result) }
         ensures instance { IsInstance self.now }
     {
-        self.namings.at(r)
+        match &self.crosses {
+            Some(crosses) => Namings::Kept(crosses.namings_of(r)),
+            None => Namings::Sought(self, r),
+        }
     }
 
     /// The weight that is given to a pair, 0 where none is. Takes the same time for all.
@@ -530,19 +539,18 @@ fn of_checked(
     requires pairs { weighed ≡ map weighed_pair parts.weights.items }
     ensures { IfOk result (λ i. i ≡ written_in parts) }
 {
-    let (namings, crosses) = namings_and_crosses(alloc, &parts.proposers, &parts.reviewers)?;
-    Ok(of_parts(parts, namings, weighed, Some(crosses), Some(names)))
+    let crosses = find_crosses(alloc, &parts.proposers, &parts.reviewers)?;
+    Ok(of_parts(parts, weighed, Some(crosses), Some(names)))
 }
 
 /// An instance of parts that are known to make one, and of what is kept beside them.
 fn of_parts(
     parts: Parts,
-    namings: Packed<CompactNaming>,
     weighed: Pairs,
     crosses: Option<Crosses>,
     names: Option<NameTables>,
 ) -> Instance
-    requires { IsKept (written_in parts) namings weighed crosses names }
+    requires { IsKept (written_in parts) weighed crosses names }
     ensures { result ≡ written_in parts }
 {
     Instance {
@@ -554,7 +562,6 @@ fn of_parts(
         forbidden: parts.forbidden,
         seconds: parts.seconds,
         order: parts.order,
-        namings,
         weighed,
         crosses,
         names,

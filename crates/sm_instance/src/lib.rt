@@ -22,6 +22,7 @@ mod instance;
 mod kinds;
 mod matching;
 mod names;
+mod namings;
 mod pairs;
 mod parts;
 mod persons;

@@ -93,7 +93,7 @@ impl Instance {
         let mut load = 0;
         let namings = self.namings_of(r);
         for e in 0..namings.len() {
-            let naming = namings[e];
+            let naming = namings.at(e);
             if holds(a, naming) {
                 if load == capacity {
                     return Some(u32::from(naming.by));
@@ -113,7 +113,7 @@ impl Instance {
         let mut load = 0;
         let namings = self.namings_of(r);
         for e in 0..namings.len() {
-            let naming = namings[e];
+            let naming = namings.at(e);
             if holds(a, naming) {
                 load += 1;
             }
@@ -130,7 +130,7 @@ impl Instance {
         let mut worst = 0;
         let namings = self.namings_of(r);
         for e in 0..namings.len() {
-            let naming = namings[e];
+            let naming = namings.at(e);
             if holds(a, naming) {
                 if let Some(place) = self.cross(u32::from(naming.by), u32::from(naming.place)) {
                     worst = worst.max(place);

@@ -5,7 +5,7 @@ use Rattle.std.proofs.lemmas.Bool.{cases_lt}
 use Rattle.std.proofs.lemmas.List.{length-set, get_or-set_same, get_or-set_other}
 use Rattle.sm_instance.specs.Written.{Written, row, entry, place_of, capacity_of}
 use Rattle.sm_instance.specs.Sound.{IsInstance}
-use Rattle.sm_instance.specs.Kept.{cross_place}
+use Rattle.sm_instance.specs.Crosses.{cross_place}
 use Rattle.sm_instance.specs.Matching.{held, standing, load, IsMatching}
 use Rattle.sm_instance.specs.Stable.{Blocks, IsStable, IsGainLimit}
 use Rattle.sm_instance.proofs.AcceptLemmas.{cross_some}

@@ -1,5 +1,6 @@
-use Rattle.std.proofs.Common.{arith}
-use Rattle.sm_instance.proofs.LoadLemmas.{counted_start, counted_yes, counted_no}
+use Rattle.std.proofs.Common.{sym, ap, arith}
+use Rattle.sm_lists.specs.declared.compact_naming.CompactNaming.{CompactNaming}
+use Rattle.sm_instance.proofs.LoadLemmas.{held_by, counted_start, counted_yes, counted_no}
 use Rattle.sm_instance.proofs.BreachLemmas.{overfull_first, overfull_none}
 use Rattle.sm_instance.proofs.instance.Instance.first_overfull.Goals as goal
 use Rattle.sm_instance.proofs.instance.Instance.first_overfull.Goals.{then-holds+else-load-capacity, else-holds}
@@ -10,10 +11,16 @@ loop-e-init c = record {
   within = omega arith;
 }
 
+pub holds-requires : goal.holds-requires
+holds-requires c =
+    let by = ap (λ (n : CompactNaming). n.by) c.at-naming.ensures in
+    let lt = c.namings_of-namings.ensures.namings.in_range c.loop-e.e (omega arith) in
+    let each = c.requires.assignment.one_each in omega arith
+
 pub returns-then-load-capacity : goal.returns-then-load-capacity
 returns-then-load-capacity c =
     let capacity = c.capacity-capacity.ensures.capacity in
-    rw c.from.ensures (overfull_first c.namings_of-namings.ensures.instance c.requires.assignment c.namings_of-namings.ensures.namings c.loop-e.invariant.counted c.loop-e-test.true (c.holds.ensures.0 c.if-holds.true) (omega arith))
+    rw (c.from.ensures, c.at-naming.ensures) (overfull_first c.namings_of-namings.ensures.instance c.requires.assignment c.namings_of-namings.ensures.namings c.loop-e.invariant.counted (omega arith) (held_by c.at-naming.ensures c.args.a.now.places.items (c.holds.ensures.0 c.if-holds.true)) (omega arith))
 
 pub loop-e-preserved : goal.loop-e-preserved
 loop-e-preserved c =
@@ -21,11 +28,11 @@ loop-e-preserved c =
     let inst = c.namings_of-namings.ensures.instance in
     elim c.if-holds.branch [
       | then-holds+else-load-capacity w ↦ let is = w.load-is in let ne = w.if-load-capacity.false in record {
-        counted = rw w.load-is (counted_yes c.requires.assignment inst.proposer_entries c.namings_of-namings.ensures.namings c.loop-e.invariant.counted c.loop-e-test.true (c.holds.ensures.0 w.if-holds.true));
+        counted = rw w.load-is (counted_yes c.requires.assignment inst.proposer_entries c.namings_of-namings.ensures.namings c.loop-e.invariant.counted (omega arith) (held_by c.at-naming.ensures c.args.a.now.places.items (c.holds.ensures.0 w.if-holds.true)));
         within = let le = c.loop-e.invariant.within in omega arith;
       }
       | else-holds w ↦ let is = w.load-is in record {
-        counted = rw w.load-is (counted_no c.requires.assignment inst.proposer_entries c.namings_of-namings.ensures.namings c.loop-e.invariant.counted c.loop-e-test.true (λ h. let t = c.holds.ensures.1 h in let f = w.if-holds.false in cc));
+        counted = rw w.load-is (counted_no c.requires.assignment inst.proposer_entries c.namings_of-namings.ensures.namings c.loop-e.invariant.counted (omega arith) (λ h. let t = c.holds.ensures.1 (held_by (sym c.at-naming.ensures) c.args.a.now.places.items h) in let f = w.if-holds.false in cc));
         within = let le = c.loop-e.invariant.within in omega arith;
       }
     ]
