@@ -58,3 +58,36 @@ fn a_line_is_put_together(rt: HostRuntime) {
     assert!(rt; line.bytes() == b"0,10".as_slice());
     assert!(rt; line.into_bytes().as_slice() == b"0,10".as_slice());
 }
+
+/// Makes sure that a piece stands alone on an empty line, and behind itself.
+fn is_put(rt: &impl Abort, line: &mut LineWriter, piece: &[u8], twice: &[u8]) {
+    line.clear();
+    line.put_bytes(piece).expect(rt, MEMORY);
+    assert!(rt; line.bytes() == piece);
+    line.put_bytes(piece).expect(rt, MEMORY);
+    assert!(rt; line.bytes() == twice);
+}
+
+#[test]
+fn pieces_of_each_length_are_put(rt: HostRuntime) {
+    let mut line = LineWriter::new(rt.alloc(), 4).expect(&rt, MEMORY);
+    is_put(&rt, &mut line, b"a", b"aa");
+    is_put(&rt, &mut line, b"ab", b"abab");
+    is_put(&rt, &mut line, b"abc", b"abcabc");
+    is_put(&rt, &mut line, b"abcd", b"abcdabcd");
+    is_put(&rt, &mut line, b"abcde", b"abcdeabcde");
+    is_put(&rt, &mut line, b"abcdefgh", b"abcdefghabcdefgh");
+    is_put(&rt, &mut line, b"abcdefghi", b"abcdefghiabcdefghi");
+    is_put(
+        &rt,
+        &mut line,
+        b"0123456789abcdef",
+        b"0123456789abcdef0123456789abcdef",
+    );
+    is_put(
+        &rt,
+        &mut line,
+        b"0123456789abcdefg",
+        b"0123456789abcdefg0123456789abcdefg",
+    );
+}
