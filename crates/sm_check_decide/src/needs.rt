@@ -1,19 +1,19 @@
 //! What each rotation of a chain needs: its predecessors, as far as the chain is known.
 
-ghost use Rattle.std.specs.Prelude.{◌≡◌, ◌≢◌, ℕ, ◌+◌, ◌-◌, ◌<◌, ◌≤◌, ◌++◌, ◌∷◌, [], ◌↔◌, List, length, slice_index, IsTrue, IfOk, Contains};
+ghost use Rattle.std.specs.Prelude.{◌≡◌, ◌≢◌, ℕ, ◌+◌, ◌-◌, ◌<◌, ◌≤◌, ◌^◌, ◌++◌, ◌∷◌, [], ◌↔◌, List, length, slice_index, IsTrue, IfOk, Contains};
 ghost use Rattle.sm_market.specs.Lists.{Lists, IsMarket, place_of, row};
 ghost use Rattle.sm_market.specs.Matching.{Places, IsMatching};
 ghost use Rattle.sm_market.specs.Pairing.{IsPairingOf};
 ghost use Rattle.sm_theory.specs.Rotations.{IsExposed, proposer_at, reviewer_at, target_at};
 ghost use Rattle.sm_theory.specs.Chains.{stage, AreNeedsOf};
-ghost use Rattle.sm_theory.specs.Marks.{marks_in, marks_of, note_of, mark_at, IsBetween, AreMarksFor, AreMarked, IsFoundNeed, Adds};
+ghost use Rattle.sm_theory.specs.Marks.{marks_of, note_of, mark_at, IsBetween, AreMarksFor, AreMarked, IsFoundNeed, Adds};
 ghost use Rattle.sm_check_decide.specs.Noting.{IsNotesFor, AreNoted, AreNotesBelow};
 ghost use Rattle.sm_check_decide.specs.Trails.{IsTrail};
 
 use crate::trail::Trail;
 use sm_market::{Market, Pairing, next_in};
 use sm_successors::first_taker;
-use sm_theory::{Rotation, mark_span, no_marks, note_movers};
+use sm_theory::{Mark, Marks, Rotation, mark_span, note_movers};
 use std::alloc::{AllocError, Global};
 use std::marker::Model;
 
@@ -24,14 +24,13 @@ use std::marker::Model;
 #[derive(Debug, Drop)]
 pub struct Notes {
     last: Vec<Option<u32>>,
-    marks: Vec<Vec<Option<u32>>>,
+    marks: Marks,
     found: Trail,
     count: u32,
 }
 
 impl Model for Notes {
     ghost use Rattle.sm_check_decide.specs.Noting.{RotationNotes};
-    ghost use Rattle.sm_theory.specs.Marks.{marks_in};
 
     ghost Value = { RotationNotes };
 
@@ -39,7 +38,7 @@ impl Model for Notes {
       most = n.found.bound;
       count = n.count;
       last = n.last.items;
-      marks = marks_in n.marks.items;
+      marks = n.marks;
       found = n.found.items;
     } };
 }
@@ -60,7 +59,7 @@ impl Notes {
     {
         Ok(Notes {
             last: vec![in alloc; None; market.proposers() as usize]?,
-            marks: no_marks(alloc, market)?,
+            marks: Marks::new(alloc, market)?,
             found: Trail::new(alloc, most)?,
             count: 0,
         })
@@ -139,17 +138,17 @@ fn find(
     m: &Pairing,
     pairs: &[(u32, u32)],
     last: &[Option<u32>],
-    marks: &[Vec<Option<u32>>],
+    marks: &Marks,
     found: &mut Trail,
 )
     requires made { IsPairingOf market.now m.now }
     requires exposed { IsExposed market.now m.now.places pairs.now }
     requires one_each { length last.now ≡ length market.now.proposers }
-    requires for_entries { AreMarksFor market.now (marks_in marks.now) }
-    requires below { AreNotesBelow found.old.bound last.now (marks_in marks.now) }
+    requires for_entries { AreMarksFor market.now marks.now }
+    requires below { AreNotesBelow found.old.bound last.now marks.now }
     ensures bound { found.new.bound ≡ found.old.bound }
     ensures found { Adds (λ i. IsFoundNeed market.now pairs.now (length pairs.now) last.now
-        (marks_in marks.now) i) [] found.new.items }
+        marks.now i) [] found.new.items }
 {
     found.clear();
     prove!(market.proposers() < 1 << 24);
@@ -158,7 +157,7 @@ fn find(
         let from = market.proposer_standing(m, p);
         let to = place_behind(market, m, pairs, i);
         add(last[p as usize], found);
-        add_between(&marks[p as usize], from, to, found);
+        add_between(marks.at(p), from, to, found);
     }
 }
 
@@ -177,7 +176,7 @@ fn add(note: Option<u32>, found: &mut Trail)
 }
 
 /// Adds what is marked behind one place and before another.
-fn add_between(marks: &[Option<u32>], from: u32, to: u32, found: &mut Trail)
+fn add_between(marks: &[Mark], from: u32, to: u32, found: &mut Trail)
     requires below { (x i : ℕ) → note_of marks.now x ≡ Some i → i < found.old.bound }
     requires down { from < to }
     requires on_list { to ≤ length marks.now }
@@ -185,23 +184,18 @@ fn add_between(marks: &[Option<u32>], from: u32, to: u32, found: &mut Trail)
     ensures added { Adds (λ i. IsBetween marks.now from to i) found.old.items found.new.items }
 {
     for place in from + 1..to {
-        add(marks[place as usize], found);
+        add(marks[place as usize].get(), found);
     }
 }
 
 /// Marks with a rotation each entry over which it moves the entry's reviewer.
-fn mark_moves(
-    market: &Market,
-    m: &Pairing,
-    pairs: &[(u32, u32)],
-    j: u32,
-    marks: &mut [Vec<Option<u32>>],
-)
+fn mark_moves(market: &Market, m: &Pairing, pairs: &[(u32, u32)], j: u32, marks: &mut Marks)
     requires made { IsPairingOf market.now m.now }
     requires exposed { IsExposed market.now m.now.places pairs.now }
-    requires for_entries { AreMarksFor market.now (marks_in marks.old) }
-    ensures marked { AreMarked market.now pairs.now (length pairs.now) j (marks_in marks.old)
-        (marks_in marks.new) }
+    requires number { j + 1 < 2 ^ 32 }
+    requires for_entries { AreMarksFor market.now marks.old }
+    ensures marked { AreMarked market.now pairs.now (length pairs.now) j marks.old
+        marks.new }
     ensures market { IsMarket market.now }
 {
     prove!(market.proposers() < 1 << 24);

@@ -1,13 +1,12 @@
 -- Where the successors of the proposers on the stack stand.
-use Rattle.std.proofs.Common.{◌≡◌, ◌≢◌, ℕ, ◌+◌, ◌<◌, inl, inr, arith, sym, ap, ◌∙◌, List, [], ◌∷◌, ◌++◌, length, take, slice_index, set, Option, Bool}
-use Rattle.std.proofs.lemmas.List.{get_or_append_left, get_or-take, length-take-le, length_push, length-set, get_or-set_same, get_or-set_other, get_or_past}
+use Rattle.std.proofs.Common.{◌≡◌, ◌≢◌, ℕ, ◌+◌, ◌<◌, inl, inr, arith, sym, ap, ◌∙◌, List, [], ◌∷◌, ◌++◌, length, take, slice_index, Option, Bool}
+use Rattle.std.proofs.lemmas.List.{get_or_append_left, get_or-take, length-take-le, length_push}
 use Rattle.std.proofs.lemmas.Option.{same_Some}
-use Rattle.sm_lists.proofs.Counting.{eq_or_ne, lt_or_le}
+use Rattle.sm_lists.proofs.Counting.{eq_or_ne}
 use Rattle.sm_market.specs.Lists.{Lists, IsMarket}
-use Rattle.sm_market.specs.Matching.{Places, standing}
+use Rattle.sm_market.specs.Matching.{Places}
 use Rattle.sm_market.specs.Stable.{IsStable}
-use Rattle.sm_theory.specs.Rotations.{WouldTake, IsSuccessor, IsExposed, proposer_at, eliminated}
-use Rattle.sm_successors.specs.Search.{IsSearchAt}
+use Rattle.sm_theory.specs.Rotations.{IsSuccessor, IsExposed, proposer_at, eliminated}
 use Rattle.sm_rotations.specs.Footings.{AreTargetPlaces}
 use Rattle.sm_rotations.specs.Walking.{spot_of, IsStack, AreStackPairs, IsTopTakenOff, AreFound}
 use Rattle.sm_rotations.proofs.WalkLemmas.{one_place, place_kept}
@@ -71,20 +70,3 @@ module _ {l : Lists} (h : IsMarket l) {m : Places} (s : IsStable l m) {stack fro
         let there = w.each (spot + i) (omega (arith, a.as_many)) in
         one_place (rw (← a.who i within) at there) (x.next i within);
   }
-
--- a search that ended for one proposer
-pub search_set : {l : Lists} {m : Places} {from : List ℕ} → IsSearchAt l m from → (p place : ℕ) → ((i : ℕ) → standing l.proposers m.proposers p < i → i < place → ¬ WouldTake l m p i) → IsSearchAt l m (set from p place)
-search_set {l} {m} {from} w p place passed = record {
-  one_each = length-set from p place ∙ w.one_each;
-  passed = λ q i behind on before. elim (eq_or_ne q p) [
-    | inl e ↦ elim (lt_or_le p (length from)) [
-      | inl less ↦
-          let here : slice_index (set from p place) q ≡ place = rw e (get_or-set_same from p place 0 less) in
-          rw e (passed i (rw e at behind) (omega (arith, before, here)))
-      | inr more ↦
-          let here : slice_index (set from p place) q ≡ 0 = rw e (get_or_past (set from p place) p 0 (omega (arith, length-set from p place, more))) in
-          absurd (omega (arith, before, here))
-    ]
-    | inr ne ↦ w.passed q i behind on (omega (arith, before, get_or-set_other from p q place 0 ne))
-  ];
-}

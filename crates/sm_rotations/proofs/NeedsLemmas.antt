@@ -7,8 +7,6 @@ use Rattle.sm_theory.specs.Rotations.{IsExposed, eliminated}
 use Rattle.sm_theory.specs.Chains.{rotation_at, stage, AreEliminable}
 use Rattle.sm_theory.specs.Values.{rotations_of}
 use Rattle.sm_theory.specs.declared.rotations.Rotation.{Rotation}
--- what is written and read of marks, passed on
-pub use Rattle.sm_theory.proofs.Chains.Marking.{marks_read, marks_in-set, as_many_marks, last_start, marks_start, note_of-replicate}
 
 -- the pairs of a rotation that is held in a value
 pub pairs_read : (rotations : List Rotation) (j : ℕ) (r : Rotation) → j < length rotations → r ≡ get_or rotations j r → r.pairs.items ≡ rotation_at (rotations_of rotations) j

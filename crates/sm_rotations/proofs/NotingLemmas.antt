@@ -11,7 +11,7 @@ use Rattle.sm_theory.proofs.Core.Chain.{needs_lower}
 use Rattle.sm_theory.proofs.Bridge.Chain.{rotation_at-push_before, rotation_at-push_new, stage_before, way_along, needs_of}
 use Rattle.sm_theory.proofs.Chains.Marks.{last_more, marks_more}
 use Rattle.sm_rotations.specs.Graph.{times, AreFollowers, AreAddedTo}
-use Rattle.sm_rotations.specs.Marking.{AreLastMoves, AreMarks, AreMoved, AreMarked, IsFoundNeed, Adds, marks_in}
+use Rattle.sm_rotations.specs.Marking.{AreLastMoves, AreMarks, AreMoved, AreMarked, IsFoundNeed, Adds}
 use Rattle.sm_rotations.specs.Noting.{AreNoted}
 use Rattle.sm_rotations.specs.declared.notes.Notes.{Notes}
 use Rattle.sm_rotations.proofs.ChainLemmas.{followed, found_in_range}
@@ -88,8 +88,8 @@ module _ {l : Lists} {first m : Places} {rotations : List (List (ℕ × ℕ))} (
       omega (arith, length_push rotations rotation, found_in_range h f eliminable_more inside (last_longer rotation (omega arith) last) (marks_longer rotation (omega arith) marked) (rw new adds) a less)
 
   -- once it is noted and added to what is found for it, the longer chain is noted
-  module _ (h : IsMarket l) {notes : Notes} (a : AreNoted l first rotations notes) {found : List ℕ} (adds : Adds (λ i. IsFoundNeed l rotation (length rotation) notes.last.items (marks_in notes.marks.items) i) [] found) where
-    pub noted_more : (after : Notes) → AreMoved rotation (length rotation) (length rotations) notes.last.items after.last.items → AreMarked l rotation (length rotation) (length rotations) (marks_in notes.marks.items) (marks_in after.marks.items)
+  module _ (h : IsMarket l) {notes : Notes} (a : AreNoted l first rotations notes) {found : List ℕ} (adds : Adds (λ i. IsFoundNeed l rotation (length rotation) notes.last.items notes.marks i) [] found) where
+    pub noted_more : (after : Notes) → AreMoved rotation (length rotation) (length rotations) notes.last.items after.last.items → AreMarked l rotation (length rotation) (length rotations) notes.marks after.marks
         → AreAddedTo (length rotations) found (rows_of notes.followers.items ++ [] ∷ []) (rows_of after.followers.items) → AreNoted l first (rotations ++ rotation ∷ []) after
     noted_more after moved marked added =
         let longer = eliminable_more in
@@ -97,7 +97,7 @@ module _ {l : Lists} {first m : Places} {rotations : List (List (ℕ × ℕ))} (
         let new : rotation_at (rotations ++ rotation ∷ []) (length rotations) ≡ rotation = rotation_at-push_new rotations rotation (length rotations) refl in
         let inside : length rotations < length (rotations ++ rotation ∷ []) = omega arith in
         let moved' : AreMoved (rotation_at (rotations ++ rotation ∷ []) (length rotations)) (length (rotation_at (rotations ++ rotation ∷ []) (length rotations))) (length rotations) notes.last.items after.last.items = rw new moved in
-        let marked' : AreMarked l (rotation_at (rotations ++ rotation ∷ []) (length rotations)) (length (rotation_at (rotations ++ rotation ∷ []) (length rotations))) (length rotations) (marks_in notes.marks.items) (marks_in after.marks.items) = rw new marked in
+        let marked' : AreMarked l (rotation_at (rotations ++ rotation ∷ []) (length rotations)) (length (rotation_at (rotations ++ rotation ∷ []) (length rotations))) (length rotations) notes.marks after.marks = rw new marked in
         let before = last_longer rotation (omega arith) a.last in
         let before' = marks_longer rotation (omega arith) a.marks in
         record {

@@ -5,7 +5,7 @@ use Rattle.sm_market.specs.Matching.{Places, IsMatching}
 use Rattle.sm_market.specs.Vectors.{rows_of}
 use Rattle.sm_theory.specs.Chains.{stage, AreEliminable}
 use Rattle.sm_rotations.specs.Graph.{AreFollowers}
-use Rattle.sm_rotations.specs.Marking.{AreLastMoves, AreMarks, marks_in}
+use Rattle.sm_rotations.specs.Marking.{AreLastMoves, AreMarks}
 use Rattle.sm_rotations.specs.declared.notes.Notes.{Notes}
 
 -- these rotations, which can be eliminated one after the other from a matching, are noted
@@ -14,7 +14,7 @@ pub record AreNoted (l : Lists) (first : Places) (rotations : List (List (ℕ ×
   pub eliminable : AreEliminable l first rotations
   pub one_each : length notes.last.items ≡ length l.proposers
   pub last : AreLastMoves rotations (length rotations) notes.last.items
-  pub marks : AreMarks l rotations (length rotations) (marks_in notes.marks.items)
+  pub marks : AreMarks l rotations (length rotations) notes.marks
   pub followers : AreFollowers l rotations (length rotations) (rows_of notes.followers.items)
 
 -- rotations that lead to a matching are noted

@@ -18,6 +18,17 @@ pub(crate) fn empty_lists(alloc: Global, rotations: usize) -> Result<Vec<Vec<u32
     Ok(lists)
 }
 
+/// For each of these counts an empty list, with room for so many.
+pub(crate) fn lists_with_room(alloc: Global, counts: &[u32]) -> Result<Vec<Vec<u32>>, AllocError>
+    ensures { IfOk result (λ lists. rows_of lists.items ≡ replicate (length counts.now) []) }
+{
+    let mut lists = Vec::with_capacity(alloc, counts.len())?;
+    for &count in counts {
+        lists.push(Vec::with_capacity(alloc, count as usize)?)?;
+    }
+    Ok(lists)
+}
+
 /// Adds a number once to the list of each of those, which have only lower numbers before.
 pub(crate) fn add_once(number: u32, those: &[u32], lists: &mut [Vec<u32>]) -> Result<(), AllocError>
     requires in_range { (a : ℕ) → a < length those.now → slice_index_or those.now a 0

@@ -1,19 +1,19 @@
 //! What is noted of the rotations of a chain, as they are eliminated one after another.
 
-ghost use Rattle.std.specs.Prelude.{◌≡◌, ℕ, ◌<◌, ◌≤◌, ◌++◌, ◌∷◌, List, length, IfOk, OnOk, Some, []};
+ghost use Rattle.std.specs.Prelude.{◌≡◌, ℕ, ◌+◌, ◌<◌, ◌≤◌, ◌^◌, ◌++◌, ◌∷◌, List, length, IfOk, OnOk, Some, []};
 ghost use Rattle.sm_market.specs.Lists.{IsMarket};
 ghost use Rattle.sm_market.specs.Matching.{Places, IsMatching};
 ghost use Rattle.sm_market.specs.Pairing.{IsPairingOf};
 ghost use Rattle.sm_theory.specs.Rotations.{IsExposed, proposer_at, eliminated};
 ghost use Rattle.sm_theory.specs.Chains.{stage};
-ghost use Rattle.sm_rotations.specs.Marking.{marks_in, marks_of, AreMarksFor, AreMarked, IsBetween, Adds};
+ghost use Rattle.sm_rotations.specs.Marking.{marks_of, AreMarksFor, AreMarked, IsBetween, Adds};
 ghost use Rattle.sm_rotations.specs.Footings.{footing_at, AreSteps, AreTargetPlaces, IsFoundAlong};
 ghost use Rattle.sm_rotations.specs.Noting.{AreNoted, IsNotedUpTo};
 
 use crate::footings::step;
 use crate::graph::add_once;
 use sm_market::{Footing, Market, Pairing, next_in};
-use sm_theory::{Rotation, mark_span, no_marks, note_movers};
+use sm_theory::{Mark, Marks, Rotation, mark_span, note_movers};
 use std::alloc::{AllocError, Global};
 
 /// What is noted of the rotations of a chain, to tell which ones need each one.
@@ -26,7 +26,7 @@ pub(crate) struct Notes {
     /// The rotation that moved each proposer last.
     last: Vec<Option<u32>>,
     /// The rotation that moved the reviewer of each entry of the proposers' lists past the proposer.
-    marks: Vec<Vec<Option<u32>>>,
+    marks: Marks,
     /// For each rotation those that need it, each once.
     followers: Vec<Vec<u32>>,
     /// How those whom the newest rotation moves stood before.
@@ -45,7 +45,7 @@ impl Notes {
     {
         Ok(Notes {
             last: vec![in alloc; None; market.proposers() as usize]?,
-            marks: no_marks(alloc, market)?,
+            marks: Marks::new(alloc, market)?,
             followers: Vec::new(alloc),
             before: Vec::new(alloc),
             after: Vec::new(alloc),
@@ -123,7 +123,7 @@ fn find(
     before: &[Footing],
     after: &[Footing],
     last: &[Option<u32>],
-    marks: &[Vec<Option<u32>>],
+    marks: &Marks,
     found: &mut Vec<u32>,
 ) -> Result<(), AllocError>
     requires before_each { length before.now ≡ length pairs.now }
@@ -135,17 +135,17 @@ fn find(
         < (footing_at after.now i).proposer }
     requires on_list { (i : ℕ) → i < length pairs.now
         → (footing_at after.now i).proposer
-        ≤ length (marks_of (marks_in marks.now) (proposer_at pairs.now i)) }
+        ≤ length (marks_of marks.now (proposer_at pairs.now i)) }
     ensures { OnOk result (Adds
         (λ i. IsFoundAlong pairs.now before.now after.now (length pairs.now) last.now
-        (marks_in marks.now) i)
+        marks.now i)
         [] found.new.items) }
 {
     found.clear();
     for i in 0..pairs.len() {
-        let p = pairs[i].0 as usize;
-        add_last(last[p], found)?;
-        add_between(&marks[p], before[i].proposer, after[i].proposer, found)?;
+        let p = pairs[i].0;
+        add_last(last[p as usize], found)?;
+        add_between(marks.at(p), before[i].proposer, after[i].proposer, found)?;
     }
     Ok(())
 }
@@ -161,19 +161,14 @@ fn add_last(last: Option<u32>, found: &mut Vec<u32>) -> Result<(), AllocError>
 }
 
 /// Adds the rotations that are marked behind one place and before another.
-fn add_between(
-    marks: &[Option<u32>],
-    from: u32,
-    to: u32,
-    found: &mut Vec<u32>,
-) -> Result<(), AllocError>
+fn add_between(marks: &[Mark], from: u32, to: u32, found: &mut Vec<u32>) -> Result<(), AllocError>
     requires down { from < to }
     requires on_list { to ≤ length marks.now }
     ensures { OnOk result (Adds (λ i. IsBetween marks.now from to i) found.old.items
         found.new.items) }
 {
     for place in from + 1..to {
-        if let Some(i) = marks[place as usize] {
+        if let Some(i) = marks[place as usize].get() {
             found.push(i)?;
         }
     }
@@ -187,13 +182,14 @@ fn mark_moves(
     before: &[Footing],
     after: &[Footing],
     j: u32,
-    marks: &mut [Vec<Option<u32>>],
+    marks: &mut Marks,
 )
     requires market { IsMarket market.now }
     requires moved { AreSteps market.now pairs.now before.now after.now }
-    requires for_entries { AreMarksFor market.now (marks_in marks.old) }
-    ensures { AreMarked market.now pairs.now (length pairs.now) j (marks_in marks.old)
-        (marks_in marks.new) }
+    requires number { j + 1 < 2 ^ 32 }
+    requires for_entries { AreMarksFor market.now marks.old }
+    ensures { AreMarked market.now pairs.now (length pairs.now) j marks.old
+        marks.new }
 {
     for i in 0..pairs.len() {
         let r = pairs[next_in(i, pairs.len())].1;

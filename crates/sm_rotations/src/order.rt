@@ -10,7 +10,7 @@ ghost use Rattle.sm_theory.specs.Values.{rotations_of};
 ghost use Rattle.sm_rotations.specs.Graph.{times, AreFollowers};
 ghost use Rattle.sm_rotations.specs.Ordering.{later_first, IsLowestPair, IsTurned, IsOneMore, AreReadyAtFirst, IsReleased};
 
-use crate::graph::{add_once, counts, empty_lists};
+use crate::graph::{add_once, counts, lists_with_room};
 use sm_market::{Market, Pairing};
 use sm_theory::{Chain, Rotation};
 use std::alloc::{AllocError, Global};
@@ -90,8 +90,8 @@ fn ordered(
 {
     prove!(market.proposers() < 1 << 24);
     let mut unmet = counts(alloc, followers)?;
-    let mut noted = empty_lists(alloc, followers.len())?;
     let unmet = unmet.as_mut_slice();
+    let mut noted = lists_with_room(alloc, unmet)?;
     let noted = noted.as_mut_slice();
     let mut ready = ready_at_first(alloc, rotations, unmet)?;
     let mut written = Vec::with_capacity(alloc, rotations.len())?;
@@ -130,7 +130,8 @@ fn turned(alloc: Global, pairs: &[(u32, u32)]) -> Result<Rotation, AllocError>
     ensures { IfOk result (λ r. IsTurned pairs.now r.pairs.items) }
 {
     let from = lowest(pairs);
-    let mut turned = Vec::from_slice(alloc, &pairs[from..])?;
+    let mut turned = Vec::with_capacity(alloc, pairs.len())?;
+    turned.extend_from_slice(&pairs[from..])?;
     turned.extend_from_slice(&pairs[..from])?;
     Ok(Rotation { pairs: turned })
 }

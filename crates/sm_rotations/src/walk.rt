@@ -3,12 +3,11 @@
 //! Each proposer's successor is looked for along its list, from where it was looked for before. Reviewers never get worse
 //! partners by an elimination, so that no entry is passed twice.
 
-ghost use Rattle.std.specs.Prelude.{◌≡◌, ◌≢◌, ℕ, ◌-◌, ◌<◌, ◌≤◌, ◌++◌, ◌∷◌, [], length, take, Some, None, true, false, IfOk, OnOk, replicate, slice_index, slice_set, MatchOption};
+ghost use Rattle.std.specs.Prelude.{◌≡◌, ◌≢◌, ℕ, ◌-◌, ◌<◌, ◌≤◌, ◌++◌, ◌∷◌, [], length, take, Some, None, true, false, IfOk, OnOk, replicate, slice_index, slice_set};
 ghost use Rattle.sm_market.specs.Lists.{place_of, IsMarket};
 ghost use Rattle.sm_market.specs.Matching.{held};
 ghost use Rattle.sm_market.specs.Stable.{IsStable, IsProposersBest};
 ghost use Rattle.sm_market.specs.Pairing.{IsPairingOf};
-ghost use Rattle.sm_theory.specs.Rotations.{IsSuccessor, IsNext};
 ghost use Rattle.sm_theory.specs.Chains.{IsCompleteChain};
 ghost use Rattle.sm_theory.specs.Values.{rotations_of};
 ghost use Rattle.sm_successors.specs.Search.{IsSearchAt};
@@ -17,7 +16,7 @@ ghost use Rattle.sm_rotations.specs.Walking.{IsAtWorst, IsStack, AreFound, IsFou
 
 use crate::notes::Notes;
 use sm_market::{Market, Pairing};
-use sm_successors::first_taker;
+use sm_successors::next_proposer;
 use sm_theory::Rotation;
 use std::alloc::{AllocError, Global};
 
@@ -114,7 +113,7 @@ fn walk_step(market: &Market, m: &Pairing, trail: &WalkStack, from: &mut [u32], 
         return WalkStep::On(p);
     }
     let top = trail.top();
-    let Some(q) = next_found(market, m, top, from) else {
+    let Some(q) = next_proposer(market, m, top, from) else {
         return WalkStep::Over;
     };
     if trail.is_finished(q) {
@@ -124,29 +123,6 @@ fn walk_step(market: &Market, m: &Pairing, trail: &WalkStack, from: &mut [u32], 
         None => WalkStep::On(q),
         Some(spot) => WalkStep::Back(spot),
     }
-}
-
-/// The proposer that has `p`'s successor, if there is one. `from` has how far the successors were looked for, and then the place
-/// where this one stands.
-fn next_found(market: &Market, m: &Pairing, p: u32, from: &mut [u32]) -> Option<u32>
-    requires in_range { p < length market.now.proposers }
-    requires made { IsPairingOf market.now m.now }
-    requires search { IsSearchAt market.now m.now.places from.old }
-    ensures search { IsSearchAt market.now m.now.places from.new }
-    ensures others { (q : ℕ) → q ≢ p → slice_index from.new q ≡ slice_index from.old q }
-    ensures next { MatchOption result
-        ((i : ℕ) → ¬ IsSuccessor market.now m.now.places p i)
-        (λ q. IsNext market.now m.now.places p q) }
-    ensures found { (q : ℕ) → result ≡ Some q
-        → IsSuccessor market.now m.now.places p (slice_index from.new p) }
-    ensures in_range { MatchOption result (Unit {0}) (λ q. q < length market.now.proposers) }
-{
-    let place = first_taker(market, m, p, from[p as usize]);
-    from[p as usize] = place;
-    if place >= market.proposer_len(p) {
-        return None;
-    }
-    m.holder(market.reviewer_at(p, place))
 }
 
 impl WalkStack {

@@ -1,7 +1,6 @@
 -- What is noted of the rotations of a chain, one after another, and tells what each one needs: which one moved each proposer
 -- last, and which one moved a reviewer past each proposer of its list.
-use Rattle.std.specs.Prelude.{◌≡◌, ℕ, ◌<◌, ◌⊎◌, List, [], Option, Some, None, IsSome, length, slice_index_or, map, Vec, Contains}
-use Rattle.std.specs.declared.alloc.Global.{Global}
+use Rattle.std.specs.Prelude.{◌≡◌, ℕ, ◌<◌, ◌⊎◌, List, [], Option, Some, None, IsSome, length, slice_index_or, Contains}
 use Rattle.sm_market.specs.Lists.{Lists, row, entry, place_of}
 use Rattle.sm_theory.specs.Rotations.{proposer_at, reviewer_at, target_at, next_in}
 use Rattle.sm_theory.specs.Chains.{rotation_at}
@@ -88,10 +87,6 @@ pub record IsPassedBy (l : Lists) (rotation : List (ℕ × ℕ)) (n : ℕ) (mark
 -- what the first n pairs of a rotation are found to need
 abbrev pub IsFoundNeed : Lists → List (ℕ × ℕ) → ℕ → List (Option ℕ) → List (List (Option ℕ)) → ℕ → Type 0
 IsFoundNeed l rotation n notes marks i = IsLastOf rotation n notes i ⊎ IsPassedBy l rotation n marks i
-
--- what each of the vectors holds
-abbrev pub marks_in : List (Vec (Option ℕ) Global) → List (List (Option ℕ))
-marks_in vectors = map (λ v. v.items) vectors
 
 -- r stands at place x of p's list, and p on r's list behind the place `better` and before the place `worse`
 pub record IsSpan (l : Lists) (r better worse p x : ℕ) : Type 0 where

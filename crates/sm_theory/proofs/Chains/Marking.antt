@@ -1,16 +1,14 @@
 -- Writing notes and marks, one after another, and collecting them.
-use Rattle.std.proofs.Common.{◌≡◌, ℕ, zero, suc, ◌+◌, ◌<◌, ◌≤◌, ◌⊎◌, inl, inr, arith, refl, sym, ap, ◌∙◌, List, [], ◌∷◌, ◌++◌, Vec, length, Option, None, Some, get_or, set, replicate, slice_index_or}
+use Rattle.std.proofs.Common.{◌≡◌, ℕ, zero, suc, ◌+◌, ◌<◌, ◌≤◌, ◌⊎◌, inl, inr, arith, refl, sym, ap, ◌∙◌, List, [], ◌∷◌, ◌++◌, length, Option, None, Some, replicate, slice_index_or}
 use Rattle.std.specs.List.{Contains}
-use Rattle.std.specs.Vec.{with_item}
-use Rattle.std.specs.declared.alloc.Global.{Global}
-use Rattle.std.proofs.lemmas.List.{get_or-map, map-set, get_or_past, get_or-replicate, length-replicate, length-map}
+use Rattle.std.proofs.lemmas.List.{get_or_past, get_or-replicate, length-replicate}
 use Rattle.std.proofs.lemmas.List.Elements.{Contains-append_left, Contains-append_right, Contains-append_cases}
 use Rattle.sm_market.specs.Lists.{Lists, row, entry, place_of, IsMarket}
 use Rattle.sm_lists.proofs.Counting.{lt_or_le, eq_or_ne}
 use Rattle.sm_market.proofs.PlaceLemmas.{place_of-entry}
 use Rattle.sm_lists.proofs.PlaceLemmas.{entry-place_of}
 use Rattle.sm_theory.specs.Rotations.{proposer_at, target_at, next_in}
-use Rattle.sm_theory.specs.Marks.{note_of, marks_of, mark_at, MovesOver, AreLastMoves, AreMarksFor, AreMarks, AreMarked, IsBetween, marks_in, IsSpan, IsSpanMarked, Adds}
+use Rattle.sm_theory.specs.Marks.{note_of, mark_at, MovesOver, AreLastMoves, AreMarksFor, AreMarks, AreMarked, IsBetween, IsSpan, IsSpanMarked, Adds}
 
 module _ {l : Lists} (h : IsMarket l) where
   returns_to : (r k : ℕ) → k < length (row l.reviewers r) → let p = entry l.reviewers r k in place_of l.proposers p r < length (row l.proposers p)
@@ -132,21 +130,6 @@ adds_like forth back a = record {
   added = λ i q. a.added i (back i q);
   only = λ i w. elim (a.only i w) [ inl v ↦ inl v | inr v ↦ inr (forth i v) ];
 }
-
--- the items of a vector of marks, read and written
-pub marks_read : (marks : List (Vec (Option ℕ) Global)) (p : ℕ) (v : Vec (Option ℕ) Global) → p < length marks → v ≡ get_or marks p v → v.items ≡ marks_of (marks_in marks) p
-marks_read marks p v inside is = ap (λ (v : Vec (Option ℕ) Global). v.items) is ∙ sym (get_or-map (λ (v : Vec (Option ℕ) Global). v.items) marks p v [] inside)
-
--- a mark that is written into the vectors is written into the marks
-pub marks_in-set : (marks : List (Vec (Option ℕ) Global)) (p x : ℕ) (j : Option ℕ) (d : Vec (Option ℕ) Global) → p < length marks
-    → marks_in (set marks p (with_item (get_or marks p d) x j)) ≡ set (marks_in marks) p (set (marks_of (marks_in marks) p) x j)
-marks_in-set marks p x j d inside =
-    map-set (λ (v : Vec (Option ℕ) Global). v.items) marks p (with_item (get_or marks p d) x j)
-    ∙ ap (λ row. set (marks_in marks) p (set row x j)) (sym (get_or-map (λ (v : Vec (Option ℕ) Global). v.items) marks p d [] inside))
-
--- there is one list of marks for each vector
-pub as_many_marks : (marks : List (Vec (Option ℕ) Global)) → length (marks_in marks) ≡ length marks
-as_many_marks marks = length-map marks (λ (v : Vec (Option ℕ) Global). v.items)
 
 -- nothing noted and nothing marked
 pub last_start : (rotations : List (List (ℕ × ℕ))) (notes : List (Option ℕ)) → ((p : ℕ) → note_of notes p ≡ None) → AreLastMoves rotations 0 notes

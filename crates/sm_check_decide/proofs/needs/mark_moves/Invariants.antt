@@ -1,5 +1,5 @@
-use Rattle.sm_theory.specs.Marks.{marks_in, AreMarked}
+use Rattle.sm_theory.specs.Marks.{AreMarked}
 use Rattle.sm_check_decide.proofs.needs.mark_moves.Given as goal
 
 abbrev pub invariant-loop-i : goal.invariant-loop-i
-invariant-loop-i l = AreMarked l.market l.pairs l.i l.j (marks_in l.fn.marks) (marks_in l.marks)
+invariant-loop-i l = AreMarked l.market l.pairs l.i l.j l.fn.marks l.marks

@@ -1,17 +1,15 @@
-use Rattle.std.proofs.Common.{◌≡◌, ℕ, ◌∙◌, arith, refl, length}
+use Rattle.std.proofs.Common.{◌≡◌, ℕ, arith, refl, length}
 use Rattle.sm_theory.specs.Rotations.{proposer_at}
-use Rattle.sm_rotations.specs.Marking.{marks_in, marks_of, IsBetween, Adds}
+use Rattle.sm_rotations.specs.Marking.{marks_of, IsBetween, Adds}
 use Rattle.sm_rotations.specs.Footings.{footing_at}
 use Rattle.sm_rotations.proofs.MarkingLemmas.{found_more}
-use Rattle.sm_rotations.proofs.NeedsLemmas.{marks_read}
 use Rattle.sm_rotations.proofs.notes.find.Goals as goal
 
 pub loop-i-preserved : goal.loop-i-preserved
 loop-i-preserved c =
     let p : ℕ = proposer_at c.args.pairs.now c.loop-i.i in
-    let row_is : c.deref.result.now ≡ marks_of (marks_in c.args.marks.now) p = c.deref.ensures.value ∙ marks_read c.args.marks.now p c.index-marks-p.result (c.requires.in_marks c.loop-i.i c.loop-i-test.true) c.index-marks-p.is in
-    let between : Adds (λ i. IsBetween (marks_of (marks_in c.args.marks.now) p) (footing_at c.args.before.now c.loop-i.i).proposer (footing_at c.args.after.now c.loop-i.i).proposer i) c.add_last.new.found.items c.add_between.new.found.items = rw row_is at c.in_ok-add_between.ensures in
-    found_more {rotation = c.args.pairs.now} {before = c.args.before.now} {after = c.args.after.now} {notes = c.args.last.now} {marks = marks_in c.args.marks.now} {n = c.loop-i.i}
+    let between : Adds (λ i. IsBetween (marks_of c.args.marks.now p) (footing_at c.args.before.now c.loop-i.i).proposer (footing_at c.args.after.now c.loop-i.i).proposer i) c.add_last.new.found.items c.add_between.new.found.items = rw c.at.ensures at c.in_ok-add_between.ensures in
+    found_more {rotation = c.args.pairs.now} {before = c.args.before.now} {after = c.args.after.now} {notes = c.args.last.now} {marks = c.args.marks.now} {n = c.loop-i.i}
     p refl refl refl c.loop-i.invariant c.in_ok-add_last.ensures between
 
 pub returns : goal.returns

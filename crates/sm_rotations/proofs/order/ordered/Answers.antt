@@ -40,13 +40,13 @@ steps-init c =
     let counts : AreCounts (rows_of c.args.followers.now) (length (rows_of c.args.followers.now)) c.as_mut_slice-unmet.result.now = rw (c.as_mut_slice-unmet.ensures.value, long) c.in_ok-unmet.ensures in
     let first : AreReadyAtFirst (rotations_of c.args.rotations.now) c.as_mut_slice-unmet.result.now (length (rotations_of c.args.rotations.now)) (heap_items c.in_ok-ready.ready) = rw (as_many c.args.rotations.now) c.in_ok-ready.ensures.ready in
     let none = ap rotations_of c.in_ok-written.ensures.items in
-    let empty : rows_of c.as_mut_slice-noted.result.now ≡ replicate (length c.args.followers.now) [] = ap rows_of c.as_mut_slice-noted.ensures.value ∙ c.in_ok-noted.ensures in
+    let empty : rows_of c.as_mut_slice-noted.result.now ≡ replicate (length c.as_mut_slice-unmet.result.now) [] = ap rows_of c.as_mut_slice-noted.ensures.value ∙ c.in_ok-noted.ensures in
     let each : length (rows_of c.as_mut_slice-noted.result.now) ≡ length (rotations_of c.args.rotations.now) =
-    omega (arith, ap length empty, length-replicate {A = List ℕ} (length c.args.followers.now) [], long, u.are.one_each) in
+    omega (arith, ap length empty, length-replicate {A = List ℕ} (length c.as_mut_slice-unmet.result.now) [], counts.one_each, u.are.one_each) in
     record {
       order = c.in_ok-ready.ensures.order;
       written = written_start u c.as_mut_slice-unmet.result.now (heap_items c.in_ok-ready.ready) none counts first;
-      renumbered = renumbered_start none (ap rows_of c.in_ok-needs.ensures.items) each (λ k. rw empty (row-replicate (length c.args.followers.now) k));
+      renumbered = renumbered_start none (ap rows_of c.in_ok-needs.ensures.items) each (λ k. rw empty (row-replicate (length c.as_mut_slice-unmet.result.now) k));
       few = rw none (omega arith);
     }
 

@@ -16,19 +16,19 @@ returns-then-is_finished-clause-step c =
 pub returns-in_default-clause-found : goal.returns-in_default-clause-found
 returns-in_default-clause-found c =
     let some : 0 < length c.args.trail.now.stack.items = search rules in
-    found_kept c.requires.stack c.requires.found (length c.args.trail.now.stack.items - 1) (omega arith) c.top-top.ensures c.next_found.ensures.others
+    found_kept c.requires.stack c.requires.found (length c.args.trail.now.stack.items - 1) (omega arith) c.top-top.ensures c.next_proposer.ensures.others
 
 pub returns-then-is_finished-clause-found : goal.returns-then-is_finished-clause-found
 returns-then-is_finished-clause-found c =
     let some : 0 < length c.args.trail.now.stack.items = search rules in
-    found_kept c.requires.stack c.requires.found (length c.args.trail.now.stack.items - 1) (omega arith) c.top-top.ensures c.next_found.ensures.others
+    found_kept c.requires.stack c.requires.found (length c.args.trail.now.stack.items - 1) (omega arith) c.top-top.ensures c.next_proposer.ensures.others
 
 pub returns-in-None-clause-found : goal.returns-in-None-clause-found
 returns-in-None-clause-found c =
     let some : 0 < length c.args.trail.now.stack.items = search rules in
-    found_all c.requires.stack c.requires.found (length c.args.trail.now.stack.items - 1) (omega arith) c.top-top.ensures c.next_found.ensures.others (c.next_found.ensures.found c.in-Some.q c.in-Some.is)
+    found_all c.requires.stack c.requires.found (length c.args.trail.now.stack.items - 1) (omega arith) c.top-top.ensures c.next_proposer.ensures.others (c.next_proposer.ensures.found c.in-Some.q c.in-Some.is)
 
 pub returns-in-Some-spot-clause-found : goal.returns-in-Some-spot-clause-found
 returns-in-Some-spot-clause-found c =
     let some : 0 < length c.args.trail.now.stack.items = search rules in
-    found_all c.requires.stack c.requires.found (length c.args.trail.now.stack.items - 1) (omega arith) c.top-top.ensures c.next_found.ensures.others (c.next_found.ensures.found c.in-Some.q c.in-Some.is)
+    found_all c.requires.stack c.requires.found (length c.args.trail.now.stack.items - 1) (omega arith) c.top-top.ensures c.next_proposer.ensures.others (c.next_proposer.ensures.found c.in-Some.q c.in-Some.is)

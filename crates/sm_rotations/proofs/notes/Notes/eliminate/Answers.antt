@@ -6,7 +6,7 @@ use Rattle.sm_lists.proofs.ResultLemmas.{take-append_at_length}
 use Rattle.sm_market.specs.Vectors.{rows_of}
 use Rattle.sm_theory.specs.Rotations.{proposer_at}
 use Rattle.sm_rotations.specs.Graph.{AreAddedTo}
-use Rattle.sm_rotations.specs.Marking.{marks_in, AreMoved, AreMarked, IsFoundNeed, Adds}
+use Rattle.sm_rotations.specs.Marking.{AreMoved, AreMarked, IsFoundNeed, Adds}
 use Rattle.sm_rotations.specs.Footings.{AreSteps, IsFoundAlong}
 use Rattle.sm_rotations.proofs.CountLemmas.{few_eliminable}
 use Rattle.sm_rotations.proofs.FootingLemmas.{down, on_list, found_of_along, along_of_found}
@@ -21,13 +21,19 @@ overflow_cast-number c =
     let few = few_eliminable c.proposers.ensures.market c.proposers.ensures.limits n.matching n.eliminable in
     omega (arith, few, c.len-number.ensures, length-map c.args.self.now.followers.items (λ v. v.items), n.followers.one_each)
 
+pub mark_moves-requires-clause-number : goal.mark_moves-requires-clause-number
+mark_moves-requires-clause-number c =
+    let n = c.requires.noted.noted in
+    let few = few_eliminable c.proposers.ensures.market c.proposers.ensures.limits n.matching n.eliminable in
+    omega (arith, few, c.len-number.ensures, length-map c.args.self.now.followers.items (λ v. v.items), n.followers.one_each)
+
 pub find-requires-clause-down : goal.find-requires-clause-down
 find-requires-clause-down c =
     rw (c.deref.ensures.value, c.deref-2.ensures.value, c.as_slice-pairs.ensures.value) (λ i a. down c.proposers.ensures.market c.in_ok-step.ensures.steps i a)
 
 pub find-requires-clause-on_list : goal.find-requires-clause-on_list
 find-requires-clause-on_list c =
-    rw (c.deref-2.ensures.value, c.deref-4.ensures.value, c.as_slice-pairs.ensures.value)
+    rw (c.deref-2.ensures.value, c.as_slice-pairs.ensures.value)
     (λ i a. omega (arith, on_list c.proposers.ensures.market c.in_ok-step.ensures.steps i a, c.requires.noted.noted.marks.for_entries.as_long (proposer_at c.args.rotation.now.pairs.items i)))
 
 pub add_once-requires-clause-in_range : goal.add_once-requires-clause-in_range
@@ -36,11 +42,11 @@ add_once-requires-clause-in_range c =
     let n = c.requires.noted.noted in
     let pairs : List (ℕ × ℕ) = c.args.rotation.now.pairs.items in
     let steps : AreSteps c.args.market.now pairs c.deref.result.now c.deref-2.result.now = rw (c.deref.ensures.value, c.deref-2.ensures.value) c.in_ok-step.ensures.steps in
-    let along : Adds (λ i. IsFoundAlong pairs c.deref.result.now c.deref-2.result.now (length pairs) c.args.self.now.last.items (marks_in c.args.self.now.marks.items) i) [] c.find.new.found.items =
-    rw (c.as_slice-pairs.ensures.value, c.deref-3.ensures.value, c.deref-4.ensures.value) at c.in_ok-find.ensures in
-    let found : Adds (λ i. IsFoundNeed c.args.market.now pairs (length pairs) c.args.self.now.last.items (marks_in c.args.self.now.marks.items) i) [] c.find.new.found.items = adds_like (found_of_along h steps) (along_of_found h steps) along in
+    let along : Adds (λ i. IsFoundAlong pairs c.deref.result.now c.deref-2.result.now (length pairs) c.args.self.now.last.items c.args.self.now.marks i) [] c.find.new.found.items =
+    rw (c.as_slice-pairs.ensures.value, c.deref-3.ensures.value) at c.in_ok-find.ensures in
+    let found : Adds (λ i. IsFoundNeed c.args.market.now pairs (length pairs) c.args.self.now.last.items c.args.self.now.marks i) [] c.find.new.found.items = adds_like (found_of_along h steps) (along_of_found h steps) along in
     let pushed : c.deref_mut.result.now ≡ c.args.self.now.followers.items ++ c.new.result ∷ [] = c.deref_mut.ensures.value ∙ c.in_ok-push.ensures.items in
-    rw c.deref-5.ensures.value (λ a less.
+    rw c.deref-4.ensures.value (λ a less.
     let within = found_within n.eliminable c.requires.noted.leads pairs c.requires.exposed h n.matching n.last n.marks found a less in
     omega (arith, within, ap length pushed, length_push c.args.self.now.followers.items c.new.result, length-map c.args.self.now.followers.items (λ v. v.items), n.followers.one_each))
 
@@ -58,20 +64,18 @@ returns-clause-noted c = λ first rotations n is.
     let h = c.proposers.ensures.market in
     let pairs : List (ℕ × ℕ) = c.args.rotation.now.pairs.items in
     let steps : AreSteps c.args.market.now pairs c.deref.result.now c.deref-2.result.now = rw (c.deref.ensures.value, c.deref-2.ensures.value) c.in_ok-step.ensures.steps in
-    let along : Adds (λ i. IsFoundAlong pairs c.deref.result.now c.deref-2.result.now (length pairs) c.args.self.now.last.items (marks_in c.args.self.now.marks.items) i) [] c.find.new.found.items =
-    rw (c.as_slice-pairs.ensures.value, c.deref-3.ensures.value, c.deref-4.ensures.value) at c.in_ok-find.ensures in
-    let found : Adds (λ i. IsFoundNeed c.args.market.now pairs (length pairs) c.args.self.now.last.items (marks_in c.args.self.now.marks.items) i) [] c.find.new.found.items = adds_like (found_of_along h steps) (along_of_found h steps) along in
+    let along : Adds (λ i. IsFoundAlong pairs c.deref.result.now c.deref-2.result.now (length pairs) c.args.self.now.last.items c.args.self.now.marks i) [] c.find.new.found.items =
+    rw (c.as_slice-pairs.ensures.value, c.deref-3.ensures.value) at c.in_ok-find.ensures in
+    let found : Adds (λ i. IsFoundNeed c.args.market.now pairs (length pairs) c.args.self.now.last.items c.args.self.now.marks i) [] c.find.new.found.items = adds_like (found_of_along h steps) (along_of_found h steps) along in
     let pushed : c.deref_mut.result.now ≡ c.args.self.now.followers.items ++ c.new.result ∷ [] = c.deref_mut.ensures.value ∙ c.in_ok-push.ensures.items in
     let rows : rows_of c.deref_mut.result.now ≡ rows_of c.args.self.now.followers.items ++ [] ∷ [] =
     ap rows_of pushed ∙ map_push (λ (v : Vec ℕ Global). v.items) c.args.self.now.followers.items c.new.result ∙ ap (λ (xs : List ℕ). rows_of c.args.self.now.followers.items ++ xs ∷ []) c.new.ensures.items in
     let number : c.len-number.result ≡ length rotations = omega (arith, c.len-number.ensures, length-map c.args.self.now.followers.items (λ v. v.items), n.followers.one_each) in
     let last_is : (with_items c.args.self.now.last c.note_movers.new.last).items ≡ c.note_movers.new.last = take-append_at_length c.args.self.now.last.len c.note_movers.new.last _ (c.note_movers.ensures.one_each ∙ c.deref_mut-2.ensures.len) in
-    let marks_are : (with_items c.args.self.now.marks c.mark_moves.new.marks).items ≡ c.mark_moves.new.marks = take-append_at_length c.args.self.now.marks.len c.mark_moves.new.marks _ (let auto = c.mark_moves.auto.marks in let len = c.deref_mut-3.ensures.len in omega arith) in
     let followers_are : (with_items c.push.new.self c.add_once.new.lists).items ≡ c.add_once.new.lists = take-append_at_length c.push.new.self.len c.add_once.new.lists _ (let auto = c.add_once.auto.lists in let len = c.deref_mut.ensures.len in omega arith) in
     let moved : AreMoved pairs (length pairs) (length rotations) c.args.self.now.last.items (with_items c.args.self.now.last c.note_movers.new.last).items =
     rw last_is (rw (c.as_slice-pairs.ensures.value, c.deref_mut-2.ensures.value, number) at c.note_movers.ensures) in
-    let marked : AreMarked c.args.market.now pairs (length pairs) (length rotations) (marks_in c.args.self.now.marks.items) (marks_in (with_items c.args.self.now.marks c.mark_moves.new.marks).items) =
-    rw marks_are (rw (c.as_slice-pairs.ensures.value, c.deref_mut-3.ensures.value, number) at c.mark_moves.ensures) in
+    let marked : AreMarked c.args.market.now pairs (length pairs) (length rotations) c.args.self.now.marks c.mark_moves.new.marks = rw (c.as_slice-pairs.ensures.value, number) at c.mark_moves.ensures in
     let added : AreAddedTo (length rotations) c.find.new.found.items (rows_of c.args.self.now.followers.items ++ [] ∷ []) (rows_of (with_items c.push.new.self c.add_once.new.lists).items) =
-    rw followers_are (rw (c.deref-5.ensures.value, rows, number) at c.in_ok-add_once.ensures) in
+    rw followers_are (rw (c.deref-4.ensures.value, rows, number) at c.in_ok-add_once.ensures) in
     noted_more n.eliminable is pairs c.requires.exposed h n found _ moved marked added
