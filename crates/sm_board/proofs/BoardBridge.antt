@@ -16,24 +16,14 @@ use Rattle.sm_theory.proofs.Chains.Sets.{does_move}
 use Rattle.sm_poset.specs.Moves.{rotation_of, place_to, AreMovesOf, moves_at}
 use Rattle.sm_poset.proofs.ChainLemmas.{proposer_at-pair_of, in_range, move_stands, moves_of_move}
 use Rattle.sm_poset.proofs.MoveLemmas.{go_down}
-use Rattle.sm_board.specs.Board.{Board, IsBoard, leave, stay_level}
+use Rattle.sm_board.specs.Board.{Board, IsBoard, firsts, leave, stay_level}
 use Rattle.sm_board.specs.BoardOf.{places_at, board_of, IsGround, BoardIsBoard}
-
-first_of_pairs : (ms : List (ℕ × ℕ)) (a : ℕ) → slice_index (map (λ m. m.0) ms) a ≡ (slice_index_or ms a (0, 0)).0
-first_of_pairs [] a = refl
-first_of_pairs (m ∷ ms) zero = refl
-first_of_pairs (m ∷ ms) (suc a) = first_of_pairs ms a
+use Rattle.sm_board.proofs.PairLemmas.{first_of_pairs, mapped_row}
 
 second_of_pairs : (ms : List (ℕ × ℕ)) (a : ℕ) → slice_index (map (λ m. m.1) ms) a ≡ (slice_index_or ms a (0, 0)).1
 second_of_pairs [] a = refl
 second_of_pairs (m ∷ ms) zero = refl
 second_of_pairs (m ∷ ms) (suc a) = second_of_pairs ms a
-
--- a row of mapped rows, also past the last
-mapped_row : (rows : List (List (ℕ × ℕ))) (p : ℕ) → row (map (λ ms. map (λ m. m.0) ms) rows) p ≡ map (λ m. m.0) (slice_index_or rows p [])
-mapped_row [] p = refl
-mapped_row (r ∷ rs) zero = refl
-mapped_row (r ∷ rs) (suc p) = mapped_row rs p
 
 contains_at : (xs : List ℕ) (k x : ℕ) → k < length xs → slice_index xs k ≡ x → Contains xs x
 contains_at xs k x less e = (k, less, get_or_default xs k x 0 less ∙ e)
@@ -75,7 +65,7 @@ module _ {l : Lists} {levels : List (List ℕ)} {first : Places} {rotations : Li
 
   -- there is one row for each proposer
   pub many : length board.leaves ≡ length l.proposers
-  many = length-map moves (λ ms. map (λ m. m.0) ms) ∙ ground.moves_are.one_each
+  many = length-map moves (λ ms. firsts ms) ∙ ground.moves_are.one_each
 
   -- the levels of p are those of its places
   pub levels_row : (p : ℕ) → p < length l.proposers → row board.levels p ≡ map (λ i. slice_index (row levels p) i) (places_at l first moves p)
@@ -161,7 +151,7 @@ module _ {l : Lists} {levels : List (List ℕ)} {first : Places} {rotations : Li
   -- predecessors lead from move to move, and levels never fall
   pub is_board : IsBoard board
   is_board = record {
-    movers_each = length-map rotations (λ rotation. map (λ pair. pair.0) rotation) ∙ sym ground.needs_each;
+    movers_each = length-map rotations (λ rotation. firsts rotation) ∙ sym ground.needs_each;
     levels_each = length-map-range_with_len (λ p. map (λ i. slice_index (row levels p) i) (places_at l first moves p)) 0 (length l.proposers) ∙ sym many;
     matched_each = length-map-range_with_len (λ p. is_some (held first.proposers p)) 0 (length l.proposers) ∙ sym many;
     in_range = λ p a x. omega (arith, leave_is p a, (all_moves p).sound a (omega (arith, leaves_long p)), ground.needs_each);

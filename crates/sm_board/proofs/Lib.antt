@@ -1,3 +1,4 @@
+pub mod PairLemmas
 pub mod MakeLemmas
 pub mod CourseLemmas
 pub mod StartLemmas

@@ -9,7 +9,7 @@ use Rattle.sm_theory.specs.ClosedSets.{IsClosed, matching_of}
 use Rattle.sm_theory.specs.Vectors.{AreLevels, level_of, IsAllowed, IsWithin, HasLevel, AreInRange}
 use Rattle.sm_poset.specs.Moves.{AreMoves, moves_at}
 use Rattle.sm_poset.specs.Posets.{RotationPoset}
-use Rattle.sm_board.specs.Board.{is_shut, Board, IsBoard, stay, level, stay_level, IsClosedIn, Gates, IsOpen, Fits, IsLeast}
+use Rattle.sm_board.specs.Board.{firsts, is_shut, Board, IsBoard, stay, level, stay_level, IsClosedIn, Gates, IsOpen, Fits, IsLeast}
 
 -- the places of p's stays: its first, and then where each of its moves leads
 abbrev pub places_at : Lists → Places → List (List (ℕ × ℕ)) → ℕ → List ℕ
@@ -19,8 +19,8 @@ places_at l first moves p = standing l.proposers first.proposers p ∷ map (λ m
 abbrev pub board_of : Lists → List (List ℕ) → Places → List (List (ℕ × ℕ)) → List (List ℕ) → List (List (ℕ × ℕ)) → Board
 board_of l levels first rotations needs moves = record {
   needs = needs;
-  movers = map (λ rotation. map (λ pair. pair.0) rotation) rotations;
-  leaves = map (λ ms. map (λ m. m.0) ms) moves;
+  movers = map (λ rotation. firsts rotation) rotations;
+  leaves = map (λ ms. firsts ms) moves;
   levels = map (λ p. map (λ i. slice_index (row levels p) i) (places_at l first moves p)) (agents l.proposers);
   matched = map (λ p. is_some (held first.proposers p)) (agents l.proposers);
 }

@@ -3,19 +3,22 @@
 ghost use Rattle.std.specs.Prelude.{◌≡◌, ◌<◌, length};
 ghost use Rattle.sm_market.specs.Lists.{row};
 ghost use Rattle.sm_market.specs.Vectors.{rows_of};
-ghost use Rattle.sm_board.specs.Board.{leave, stay_level};
+ghost use Rattle.sm_board.specs.Board.{firsts, leave, stay_level};
 
+use sm_poset::Digraph;
+use sm_theory::Chain;
 use std::marker::Model;
+use std::rc::Rc;
 
 /// What the rotations of a chain change for each proposer. A stay of a proposer lies between two rotations that move it.
+///
+/// It keeps the chain and the digraph of its rotations with the poset: these aren't copied.
 #[derive(Debug, Drop)]
 pub struct Board {
-    /// For each rotation its predecessors.
-    pub(crate) needs: Vec<Vec<u32>>,
-    /// For each rotation the proposers that it moves.
-    pub(crate) movers: Vec<Vec<u32>>,
-    /// For each proposer the rotations that end its stays, but for the last one.
-    pub(crate) leaves: Vec<Vec<u32>>,
+    /// The rotations, whose pairs tell which proposers each moves.
+    pub(crate) chain: Rc<Chain>,
+    /// For each rotation its predecessors, and for each proposer the rotations that end its stays, but for the last one.
+    pub(crate) digraph: Rc<Digraph>,
     /// For each proposer the levels of its stays.
     pub(crate) levels: Vec<Vec<u32>>,
     /// For each proposer whether it is matched.
@@ -23,15 +26,18 @@ pub struct Board {
 }
 
 impl Model for Board {
+    ghost use Rattle.std.specs.Prelude.{map};
     ghost use Rattle.sm_market.specs.Vectors.{rows_of};
-    ghost use Rattle.sm_board.specs.Board.{Board as Plain};
+    ghost use Rattle.sm_theory.specs.Values.{rotations_of};
+    ghost use Rattle.sm_poset.specs.Moves.{moves_in};
+    ghost use Rattle.sm_board.specs.Board.{Board as Plain, firsts};
 
     ghost Value = { Plain };
 
     ghost view = { λ s. record {
-      needs = rows_of s.needs.items;
-      movers = rows_of s.movers.items;
-      leaves = rows_of s.leaves.items;
+      needs = rows_of s.digraph.value.needs.items;
+      movers = map (λ rotation. firsts rotation) (rotations_of s.chain.value.rotations.items);
+      leaves = map (λ moves. firsts moves) (moves_in s.digraph.value.moves.items);
       levels = rows_of s.levels.items;
       matched = s.matched.items;
     } };
@@ -56,23 +62,23 @@ impl Board {
     pub fn proposers(&self) -> usize
         ensures { result ≡ length self.now.leaves }
     {
-        self.leaves.len()
+        self.digraph.as_ref().moves.len()
     }
 
     /// How many rotations there are. Takes constant time.
     pub fn rotations(&self) -> usize
         ensures { result ≡ length self.now.needs }
     {
-        self.needs.len()
+        self.digraph.as_ref().needs.len()
     }
 
-    /// For each stay of a proposer but the last one the rotation that ends it. Proposers, stays and rotations are numbered from
-    /// 0. Takes constant time.
-    pub fn leaves(&self, p: u32) -> &[u32]
+    /// For each stay of a proposer but the last one the rotation that ends it, with the place to which that one moves it.
+    /// Proposers, stays, rotations and places are numbered from 0. Takes constant time.
+    pub fn moves(&self, p: u32) -> &[(u32, u32)]
         requires { p < length self.now.leaves }
-        ensures { result.now ≡ row self.now.leaves p }
+        ensures { firsts result.now ≡ row self.now.leaves p }
     {
-        &self.leaves[p as usize]
+        &self.digraph.as_ref().moves[p as usize]
     }
 
     /// The predecessors of a rotation. All are numbered from 0. Takes constant time.
@@ -80,15 +86,15 @@ impl Board {
         requires { x < length self.now.needs }
         ensures { result.now ≡ row self.now.needs x }
     {
-        &self.needs[x as usize]
+        &self.digraph.as_ref().needs[x as usize]
     }
 
-    /// The proposers that a rotation moves. All are numbered from 0. Takes constant time.
-    pub fn movers(&self, x: u32) -> &[u32]
+    /// The proposers that a rotation moves, each with the reviewer that it leaves. All are numbered from 0. Takes constant time.
+    pub fn pairs(&self, x: u32) -> &[(u32, u32)]
         requires { x < length self.now.movers }
-        ensures { result.now ≡ row self.now.movers x }
+        ensures { firsts result.now ≡ row self.now.movers x }
     {
-        &self.movers[x as usize]
+        &self.chain.as_ref().rotations[x as usize].pairs
     }
 
     /// The rotation that ends a stay of a proposer. All are numbered from 0. Takes constant time.
@@ -97,7 +103,7 @@ impl Board {
         requires stay { stay < length (row self.now.leaves p) }
         ensures { result ≡ leave self.now p stay }
     {
-        self.leaves[p as usize][stay]
+        self.moves(p)[stay].0
     }
 
     /// How many stays a proposer has: one more than the rotations that move it. Takes constant time.

@@ -4,7 +4,7 @@ ghost use Rattle.std.specs.Prelude.{◌≡◌, ℕ, ◌<◌, ◌≤◌, ◌^◌,
 ghost use Rattle.sm_market.specs.Lists.{row};
 ghost use Rattle.sm_theory.specs.ClosedSets.{IsMember};
 ghost use Rattle.sm_theory.specs.Vectors.{IsOrder};
-ghost use Rattle.sm_board.specs.Board.{IsBoard, Changes, IsFirstChange, leave};
+ghost use Rattle.sm_board.specs.Board.{IsBoard, Changes, IsFirstChange, firsts, leave};
 ghost use Rattle.sm_board.specs.Courses.{IsCourse, IsHeld, HoldsMore, Breaks};
 
 use crate::board::Board;
@@ -100,7 +100,7 @@ impl Course {
         ensures course { IsCourse self.now }
     {
         let board = self.board();
-        board.leaves.len() as u32
+        board.proposers() as u32
     }
 
     /// The predecessors of a rotation. All are numbered from 0. Takes constant time.
@@ -112,13 +112,13 @@ impl Course {
         self.board().needs(x)
     }
 
-    /// The proposers that a rotation moves. All are numbered from 0. Takes constant time.
-    pub fn movers(&self, x: u32) -> &[u32]
+    /// The proposers that a rotation moves, each with the reviewer that it leaves. All are numbered from 0. Takes constant time.
+    pub fn pairs(&self, x: u32) -> &[(u32, u32)]
         requires { x < length self.now.board.needs }
-        ensures movers { result.now ≡ row self.now.board.movers x }
+        ensures movers { firsts result.now ≡ row self.now.board.movers x }
         ensures course { IsCourse self.now }
     {
-        self.board().movers(x)
+        self.board().pairs(x)
     }
 
     /// The rotation that ends a stay of a proposer. All are numbered from 0. Takes constant time.

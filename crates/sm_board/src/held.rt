@@ -217,7 +217,7 @@ fn move_on(board: &Board, x: u32, at: &mut [usize], now: &mut [u32])
     ensures { let movers = row board.now.movers x in IsMovedOn board.now movers (length movers)
         at.old now.old at.new now.new }
 {
-    for &p in board.movers(x) {
+    for &(p, _) in board.pairs(x) {
         let _few = board.stays(p);
         set_stay(board, p, at[p as usize] + 1, at, now);
     }
@@ -235,7 +235,7 @@ fn move_back(board: &Board, x: u32, at: &mut [usize], now: &mut [u32])
     ensures { let movers = row board.now.movers x in IsMovedBack board.now movers (length movers)
         at.old now.old at.new now.new }
 {
-    for &p in board.movers(x) {
+    for &(p, _) in board.pairs(x) {
         set_stay(board, p, at[p as usize] - 1, at, now);
     }
 }

@@ -10,45 +10,8 @@ ghost use Rattle.sm_poset.specs.Moves.{AreMoves, moves_in, place_to};
 ghost use Rattle.sm_board.specs.BoardOf.{places_at, IsBoardFor};
 
 use crate::board::Board;
-use sm_lists::copy_of;
 use sm_poset::Poset;
-use sm_theory::Rotation;
 use std::alloc::{AllocError, Global};
-
-/// The first of each pair.
-fn firsts(alloc: Global, pairs: &[(u32, u32)]) -> Result<Vec<u32>, AllocError>
-    ensures { IfOk result (λ firsts. firsts.items ≡ map (λ pair. pair.0) pairs.now) }
-{
-    let mut firsts = Vec::with_capacity(alloc, pairs.len())?;
-    for &(x, _) in pairs {
-        firsts.push(x)?;
-    }
-    Ok(firsts)
-}
-
-/// The proposers that each rotation moves.
-fn movers_of(alloc: Global, rotations: &[Rotation]) -> Result<Vec<Vec<u32>>, AllocError>
-    ensures { IfOk result (λ movers. rows_of movers.items
-        ≡ map (λ rotation. map (λ pair. pair.0) rotation) (rotations_of rotations.now)) }
-{
-    let mut movers = Vec::with_capacity(alloc, rotations.len())?;
-    for rotation in rotations {
-        movers.push(firsts(alloc, &rotation.pairs)?)?;
-    }
-    Ok(movers)
-}
-
-/// The rotations that move each proposer.
-fn leaves_of(alloc: Global, moves: &[Vec<(u32, u32)>]) -> Result<Vec<Vec<u32>>, AllocError>
-    ensures { IfOk result (λ leaves. rows_of leaves.items
-        ≡ map (λ ms. map (λ m. m.0) ms) (moves_in moves.now)) }
-{
-    let mut leaves = Vec::with_capacity(alloc, moves.len())?;
-    for row in moves {
-        leaves.push(firsts(alloc, row)?)?;
-    }
-    Ok(leaves)
-}
 
 /// The levels of a proposer at its first place and at those to which its moves lead.
 fn levels_at(
@@ -112,7 +75,8 @@ fn stay_levels(
 
 /// The board of a poset with levels.
 ///
-/// Takes time and memory in proportion to the proposers, the pairs of the rotations and the predecessors.
+/// It keeps the chain and the digraph of its rotations with the poset: these aren't copied. Takes time and memory in proportion
+/// to the proposers and to the pairs of the rotations.
 ///
 /// # Errors
 ///
@@ -121,16 +85,13 @@ pub fn make_board(alloc: Global, poset: &Poset, levels: &[Vec<u32>]) -> Result<B
     requires { AreLevels poset.now.lists (rows_of levels.now) }
     ensures { IfOk result (λ board. IsBoardFor poset.now (rows_of levels.now) board) }
 {
-    let moves = poset.all_moves();
-    let needs = copy_of(alloc, poset.all_needs())?;
-    let movers = movers_of(alloc, &poset.chain().rotations)?;
-    let leaves = leaves_of(alloc, moves)?;
-    let stay_levels = stay_levels(alloc, poset, levels, moves)?;
+    let _chain = poset.chain();
+    let (chain, digraph) = poset.shared_rotations()?;
+    let stay_levels = stay_levels(alloc, poset, levels, &digraph.as_ref().moves)?;
     let matched = matched(alloc, poset)?;
     Ok(Board {
-        needs,
-        movers,
-        leaves,
+        chain,
+        digraph,
         levels: stay_levels,
         matched,
     })

@@ -164,7 +164,7 @@ fn open_movers(course: &Course, gates: &Gates, held: &mut Held, x: u32, bar: u32
     ensures barred { result ≡ false → Breaks (Fits course.now.board gates.now) course.now bar
         held.old.set }
 {
-    for &p in course.movers(x) {
+    for &(p, _) in course.pairs(x) {
         if !open(course, gates, held, p, bar) {
             return false;
         }

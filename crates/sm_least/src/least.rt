@@ -6,7 +6,8 @@ ghost use Rattle.sm_market.specs.Matching.{Places};
 ghost use Rattle.sm_market.specs.Stable.{IsStable};
 ghost use Rattle.sm_theory.specs.ClosedSets.{IsClosed, matching_of};
 ghost use Rattle.sm_theory.specs.Vectors.{AreLevels, IsAllowed, IsWithin, IsOrder, level_vector_of, AreInRange};
-ghost use Rattle.sm_board.specs.Board.{IsBoard, Fits, IsLeast, IsClosedIn, level, members_in};
+ghost use Rattle.sm_poset.specs.Moves.{rotation_of};
+ghost use Rattle.sm_board.specs.Board.{IsBoard, Fits, IsLeast, IsClosedIn, firsts, level, members_in};
 ghost use Rattle.sm_board.specs.Growing.{IsLogOf};
 ghost use Rattle.sm_theory.specs.Weights.{regret_of};
 ghost use Rattle.sm_least.specs.Gates.{AreUnbounded};
@@ -90,9 +91,8 @@ impl Least {
     /// Makes ready to search the stable matchings of a poset, with levels for all places of each proposer and one for being
     /// unmatched, never falling along a list.
     ///
-    /// It keeps the market and the chain with the poset: these aren't copied. The levels are moved into it, and dropped where
-    /// memory runs out. Takes time and memory in proportion to the proposers, the pairs of the rotations and the
-    /// predecessors.
+    /// It keeps the market, the chain and the digraph with the poset: these aren't copied. The levels are moved into it, and
+    /// dropped where memory runs out. Takes time and memory in proportion to the proposers and to the pairs of the rotations.
     ///
     /// # Errors
     ///
@@ -406,19 +406,18 @@ fn write_levels(board: &Board, members: &[bool], into: &mut [u32])
 {
     for p in 0..into.len() {
         let p = p as u32;
-        let stay = count_members(members, board.leaves(p));
+        let stay = count_members(members, board.moves(p));
         into[p as usize] = board.level(p, stay);
     }
 }
 
-/// How many of these rotations are members.
-fn count_members(members: &[bool], rotations: &[u32]) -> usize
-    requires { (a : ℕ) → a < length rotations.now → slice_index rotations.now a
-        < length members.now }
-    ensures { result ≡ members_in members.now rotations.now }
+/// How many rotations of these moves are members.
+fn count_members(members: &[bool], moves: &[(u32, u32)]) -> usize
+    requires { (a : ℕ) → a < length moves.now → rotation_of moves.now a < length members.now }
+    ensures { result ≡ members_in members.now (firsts moves.now) }
 {
     let mut count = 0;
-    for &x in rotations {
+    for &(x, _) in moves {
         if members[x as usize] {
             count += 1;
         }

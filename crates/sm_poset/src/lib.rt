@@ -7,9 +7,11 @@
 #![tactic(auto)]
 
 mod conditions;
+mod digraph;
 mod moves;
 mod poset;
 mod sets;
 
 pub use conditions::Conditions;
+pub use digraph::Digraph;
 pub use poset::Poset;

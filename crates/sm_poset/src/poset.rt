@@ -10,6 +10,7 @@ ghost use Rattle.sm_theory.specs.Values.{rotations_of};
 ghost use Rattle.sm_poset.specs.Posets.{RotationPoset, poset_of, IsPoset};
 ghost use Rattle.sm_poset.specs.Moves.{AreMoves, moves_in, AreMovesOf, GoDown};
 
+use crate::digraph::Digraph;
 use crate::moves::{Moves, follow};
 use crate::sets::{are_closed, reached, worst_places};
 use sm_market::{Market, Pairing};
@@ -27,8 +28,7 @@ use std::rc::Rc;
 pub struct Poset {
     market: Rc<Market>,
     chain: Rc<Chain>,
-    needs: Vec<Vec<u32>>,
-    moves: Vec<Vec<(u32, u32)>>,
+    digraph: Rc<Digraph>,
     leaders: Vec<(u32, u32)>,
 }
 
@@ -46,8 +46,8 @@ impl Model for Poset {
 
     ghost invariant = { λ s. IsKept
         (poset_of s.market.value s.chain.value.first (rotations_of s.chain.value.rotations.items))
-        (rows_of s.needs.items)
-        (moves_in s.moves.items)
+        (rows_of s.digraph.value.needs.items)
+        (moves_in s.digraph.value.moves.items)
         s.leaders.items };
 }
 
@@ -103,11 +103,12 @@ impl Poset {
             leaders,
         } = follow(alloc, market.as_ref(), &chain)?;
         let chain = Rc::new(alloc, chain)?;
+        let moves = of_proposers;
+        let digraph = Rc::new(alloc, Digraph { needs, moves })?;
         Ok(Poset {
             market,
             chain,
-            needs,
-            moves: of_proposers,
+            digraph,
             leaders,
         })
     }
@@ -141,6 +142,22 @@ impl Poset {
         Ok((self.market.clone()?, self.chain.clone()?))
     }
 
+    /// The chain and what the poset tells of its rotations for one more keeper: nothing is copied. Takes constant time.
+    ///
+    /// # Errors
+    ///
+    /// `AllocError` where there are too many keepers, and only then.
+    pub fn shared_rotations(&self) -> Result<(Rc<Chain>, Rc<Digraph>), AllocError>
+        ensures rotations { IfOk result (λ both. rotations_of both.0.value.rotations.items
+            ≡ self.now.rotations) }
+        ensures needs { IfOk result (λ both. AreNeeds self.now.lists self.now.rotations
+            (rows_of both.1.value.needs.items)) }
+        ensures moves { IfOk result (λ both. AreMoves self.now.lists self.now.rotations
+            (length self.now.rotations) (moves_in both.1.value.moves.items)) }
+    {
+        Ok((self.chain.clone()?, self.digraph.clone()?))
+    }
+
     /// The numbers of the predecessors of a rotation, rising. All are numbered from 0.
     ///
     /// There are two kinds: a rotation that moves a proposer to a reviewer from which this one moves it, and one that moves a
@@ -150,14 +167,14 @@ impl Poset {
         requires { rotation < length self.now.rotations }
         ensures { AreNeedsOf self.now.lists self.now.rotations rotation result.now }
     {
-        &self.needs[rotation as usize]
+        &self.digraph.as_ref().needs[rotation as usize]
     }
 
     /// For all rotations what [`Poset::needs`] gives for one. Takes constant time.
     pub fn all_needs(&self) -> &[Vec<u32>]
         ensures { AreNeeds self.now.lists self.now.rotations (rows_of result.now) }
     {
-        &self.needs
+        &self.digraph.as_ref().needs
     }
 
     /// The numbers of the rotations that move a proposer, rising, each with the place on the proposer's list to which it moves
@@ -169,7 +186,7 @@ impl Poset {
             result.now }
         ensures down { GoDown self.now.lists p result.now }
     {
-        &self.moves[p as usize]
+        &self.digraph.as_ref().moves[p as usize]
     }
 
     /// For all proposers what [`Poset::moves`] gives for one. Takes constant time.
@@ -177,7 +194,7 @@ impl Poset {
         ensures { AreMoves self.now.lists self.now.rotations (length self.now.rotations)
             (moves_in result.now) }
     {
-        &self.moves
+        &self.digraph.as_ref().moves
     }
 
     /// Whether a set of rotations has, with each member, all predecessors of it. The set has to have one item for each
@@ -188,7 +205,7 @@ impl Poset {
         requires { length set.now.members.items ≡ length self.now.rotations }
         ensures { IsTrue result ↔ IsClosed self.now.lists self.now.rotations set.now.members.items }
     {
-        are_closed(&set.members, &self.needs)
+        are_closed(&set.members, self.all_needs())
     }
 
     /// The matching of a closed set: each proposer that is matched at first gets the reviewer that it likes least among its
@@ -208,7 +225,9 @@ impl Poset {
             set.now.members.items) }
         ensures stable { IfOk result (λ m. IsStable self.now.lists m.places) }
     {
-        let places = worst_places(alloc, &self.chain.as_ref().first, &self.moves, &set.members)?;
+        let first = &self.chain.as_ref().first;
+        let moves = &self.digraph.as_ref().moves;
+        let places = worst_places(alloc, first, moves, &set.members)?;
         Pairing::held(alloc, self.market.as_ref(), &places)
     }
 

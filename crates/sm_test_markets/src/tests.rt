@@ -246,6 +246,7 @@ fn a_poset_by_a_passed_seat(rt: HostRuntime) {
     assert!(rt; poset.needs(1) == [0].as_slice());
     assert!(rt; 2 < poset.market().proposers());
     assert!(rt; poset.moves(2) == [(1, 2)].as_slice());
+    assert!(rt; poset.all_moves().len() == 4);
     asserts(&rt, &poset, "00", Some("0000"));
     asserts(&rt, &poset, "10", Some("1100"));
     asserts(&rt, &poset, "11", Some("1121"));

@@ -7,5 +7,5 @@ use Rattle.sm_poset.proofs.poset.Poset.all_needs.Goals as goal
 
 pub returns : goal.returns
 returns c =
-    let kept = subst (λ (poset : RotationPoset). IsKept poset (rows_of c.self.inside.needs.items) (moves_in c.self.inside.moves.items) c.self.inside.leaders.items) c.self.view_is c.self.invariant in
-    rw c.deref.ensures.value (record { one_each = kept.needs_each; each = kept.needs_are })
+    let kept = subst (λ (poset : RotationPoset). IsKept poset (rows_of c.self.inside.digraph.value.needs.items) (moves_in c.self.inside.digraph.value.moves.items) c.self.inside.leaders.items) c.self.view_is c.self.invariant in
+    rw (c.deref.ensures.value, c.as_ref.ensures) (record { one_each = kept.needs_each; each = kept.needs_are })

@@ -9,7 +9,7 @@ use Rattle.sm_poset.proofs.poset.Poset.set_of.Goals as goal
 
 pub returns : goal.returns
 returns c =
-    let kept = subst (λ (poset : RotationPoset). IsKept poset (rows_of c.self.inside.needs.items) (moves_in c.self.inside.moves.items) c.self.inside.leaders.items) c.self.view_is c.self.invariant in
+    let kept = subst (λ (poset : RotationPoset). IsKept poset (rows_of c.self.inside.digraph.value.needs.items) (moves_in c.self.inside.digraph.value.moves.items) c.self.inside.leaders.items) c.self.view_is c.self.invariant in
     let lists_are : c.self.inside.market.value ≡ c.args.self.now.lists = ap (λ (poset : RotationPoset). poset.lists) c.self.view_is in
     let items_are : c.in_ok-reached.field-0.items ≡ reached_set c.args.self.now.lists c.args.m.now.places c.self.inside.leaders.items =
     c.in_ok-reached.ensures ∙ ap (λ (l : Lists). reached_set l c.args.m.now.places c.deref.result.now) c.as_ref.ensures ∙ ap (reached_set c.self.inside.market.value c.args.m.now.places) c.deref.ensures.value ∙ ap (λ (l : Lists). reached_set l c.args.m.now.places c.self.inside.leaders.items) lists_are in

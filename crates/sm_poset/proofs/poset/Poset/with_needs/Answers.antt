@@ -26,4 +26,4 @@ invariant_of-result c =
       moves_are = subst (λ n. AreMoves c.args.market.value rotations n (moves_in c.in_ok-of_proposers.field-0.of_proposers.items)) (sym long) noted.moves;
       leaders_are = subst (λ n. AreLeaders c.args.market.value rotations n c.in_ok-of_proposers.field-0.leaders.items) (sym long) noted.leaders;
     } in
-    rw c.in_ok-chain.ensures.ok kept
+    rw (c.in_ok-chain.ensures.ok, c.in_ok-digraph.ensures.ok) kept
