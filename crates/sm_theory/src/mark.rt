@@ -1,6 +1,6 @@
 //! Marks, in four bytes each.
 
-ghost use Rattle.std.specs.Prelude.{◌≡◌, ◌+◌, ◌<◌, ◌^◌, Some, None};
+ghost use Rattle.std.specs.Prelude.{◌≡◌, ◌+◌, ◌<◌, ◌^◌, IfSome};
 
 use std::marker::Model;
 
@@ -25,19 +25,15 @@ impl Model for Mark {
 }
 
 impl Mark {
-    /// No number.
-    pub(crate) fn none() -> Mark
-        ensures { result ≡ None }
+    /// The mark with a number, or with none.
+    pub(crate) fn of(number: Option<u32>) -> Mark
+        requires { IfSome number (λ number. number + 1 < 2 ^ 32) }
+        ensures { result ≡ number }
     {
-        Mark { past: 0 }
-    }
-
-    /// The mark with a number.
-    pub(crate) fn of(number: u32) -> Mark
-        requires { number + 1 < 2 ^ 32 }
-        ensures { result ≡ Some number }
-    {
-        Mark { past: number + 1 }
+        match number {
+            Some(number) => Mark { past: number + 1 },
+            None => Mark { past: 0 },
+        }
     }
 
     /// The number, if there is one. Takes constant time.

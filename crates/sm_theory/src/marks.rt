@@ -1,7 +1,7 @@
 //! What is noted of the rotations of a chain, one after another: which one moved each proposer last, and which one moved a
 //! reviewer past each proposer of its list.
 
-ghost use Rattle.std.specs.Prelude.{◌≡◌, ℕ, ◌+◌, ◌<◌, ◌≤◌, ◌^◌, length, IfOk, Some, None, slice_set};
+ghost use Rattle.std.specs.Prelude.{◌≡◌, ℕ, ◌+◌, ◌<◌, ◌≤◌, ◌^◌, length, IfOk, None};
 ghost use Rattle.sm_lists.specs.Rows.{lists_in};
 ghost use Rattle.sm_market.specs.Lists.{row, IsMarket};
 ghost use Rattle.sm_theory.specs.Rotations.{proposer_at};
@@ -43,7 +43,7 @@ impl Marks {
         prove!(market.proposers() < 1 << 24);
         let lists = proposer_lists(alloc, market)?;
         Ok(Marks {
-            rows: Packed::filled(alloc, &lists, Mark::none())?,
+            rows: Packed::filled(alloc, &lists, Mark::of(None))?,
         })
     }
 
@@ -53,16 +53,6 @@ impl Marks {
         ensures { result.now ≡ marks_of self.now p }
     {
         self.rows.at(p)
-    }
-
-    /// Marks one entry.
-    fn set(&mut self, p: u32, place: u32, j: u32)
-        requires in_range { p < length self.old }
-        requires on_list { place < length (marks_of self.old p) }
-        requires number { j + 1 < 2 ^ 32 }
-        ensures { self.new ≡ slice_set self.old p (slice_set (marks_of self.old p) place (Some j)) }
-    {
-        self.rows.put(p, place, Mark::of(j));
     }
 }
 
@@ -100,11 +90,10 @@ pub fn mark_span(market: &Market, r: u32, better: u32, worse: u32, j: u32, marks
     requires for_entries { AreMarksFor market.now marks.old }
     ensures { IsSpanMarked market.now r better worse j marks.old marks.new }
 {
+    let mark = Mark::of(Some(j));
+    let rows = &mut marks.rows;
     for place in better + 1..worse {
-        marks.set(
-            market.proposer_at(r, place),
-            market.reviewer_cross(r, place),
-            j,
-        );
+        let p = market.proposer_at(r, place);
+        rows.put(p, market.reviewer_cross(r, place), mark);
     }
 }

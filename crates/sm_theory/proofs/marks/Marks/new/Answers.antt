@@ -7,5 +7,5 @@ pub returns-clause-none : goal.returns-clause-none
 returns-clause-none c =
     let filled : Option ℕ → List (List ℕ) → List (List (Option ℕ)) = λ mark lists. map (λ list. replicate (length list) mark) lists in
     let lists = ap lists_in c.deref.ensures.value ∙ c.in_ok-lists.ensures in
-    let is : c.in_ok-filled.field-0 ≡ filled None c.args.market.now.proposers = c.in_ok-filled.ensures ∙ ap (λ mark. filled mark (lists_in c.deref.result.now)) c.none.ensures ∙ ap (filled None) lists in
+    let is : c.in_ok-filled.field-0 ≡ filled None c.args.market.now.proposers = c.in_ok-filled.ensures ∙ ap (λ mark. filled mark (lists_in c.deref.result.now)) c.of.ensures ∙ ap (filled None) lists in
     λ p x. (places_start c.args.market.now.proposers [] _ is).unwritten p x (omega arith)
