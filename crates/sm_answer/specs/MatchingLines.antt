@@ -1,7 +1,7 @@
 -- The pairs of a matching as lines.
 use Rattle.std.specs.Prelude.{ℕ, List, Option}
 use Rattle.std.specs.Option.{option_map}
-use Rattle.sm_instance.specs.Written.{Written, entry}
+use Rattle.sm_agents.specs.Written.{Written, entry}
 use Rattle.sm_instance.specs.Matching.{held}
 use Rattle.sm_report.specs.Lines.{LineData}
 use Rattle.sm_answer.specs.declared.matching_lines.PairWord.{PairWord}

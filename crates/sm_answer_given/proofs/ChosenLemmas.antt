@@ -4,12 +4,12 @@ use Rattle.std.specs.Option.{option_map}
 use Rattle.std.proofs.lemmas.List.Elements.{All-append, All-cons}
 use Rattle.sm_answer.specs.Lines.{lines_from, line_or_none}
 use Rattle.sm_answer.proofs.AnswerLemmas.{one_all, lines_all}
-use Rattle.sm_instance.specs.Written.{Written, row, entry}
-use Rattle.sm_instance.specs.Sound.{IsInstance}
+use Rattle.sm_agents.specs.Written.{Written, row, entry}
+use Rattle.sm_agents.specs.Sound.{IsInstance}
 use Rattle.sm_instance.specs.Matching.{held, IsAssignment}
 use Rattle.sm_instance.specs.declared.inputs.Input.{Input}
 use Rattle.sm_instance.specs.declared.inputs.Input.TheVariants.{Two}
-use Rattle.sm_instance.proofs.ListLemmas.{row_in_range}
+use Rattle.sm_agents.proofs.ListLemmas.{row_in_range}
 use Rattle.sm_theory.specs.Choices.{chosen}
 use Rattle.sm_theory.specs.declared.choice.Choice.{Choice}
 use Rattle.sm_theory.specs.declared.choice.Choice.TheVariants.{Better, Worse}

@@ -1,6 +1,6 @@
 -- Two stable matchings that were given.
 use Rattle.std.specs.Prelude.{◌≡◌, ℕ, List}
-use Rattle.sm_instance.specs.Written.{Written}
+use Rattle.sm_agents.specs.Written.{Written}
 use Rattle.sm_instance.specs.declared.inputs.Input.TheVariants.{Two}
 use Rattle.sm_answer_given.specs.GivenText.{AreGiven}
 use Rattle.sm_pairs.specs.Held.{places_in, GiveStable}

@@ -1,6 +1,6 @@
 -- Why two given matchings have no meet and no join.
 use Rattle.std.specs.Prelude.{◌≡◌, ℕ, ◌+◌, List, length, Option}
-use Rattle.sm_instance.specs.Written.{Written}
+use Rattle.sm_agents.specs.Written.{Written}
 use Rattle.sm_instance.specs.Stable.{IsStable, IsFirstBlocking}
 use Rattle.sm_instance.specs.declared.inputs.Input.TheVariants.{Two}
 use Rattle.sm_answer_given.specs.GivenText.{AreGiven, IsBadGivenAt}

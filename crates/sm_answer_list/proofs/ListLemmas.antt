@@ -4,10 +4,10 @@ use Rattle.std.specs.List.{All, range_with_len}
 use Rattle.std.proofs.lemmas.List.Elements.{All-map}
 use Rattle.sm_text.specs.Limits.{most_limit}
 use Rattle.sm_answer.specs.Printing.{IsShown}
-use Rattle.sm_instance.specs.Written.{Written, row as written_row}
+use Rattle.sm_agents.specs.Written.{Written, row as written_row}
 use Rattle.sm_instance.specs.Matching.{held, standing, IsMatching}
 use Rattle.sm_instance.specs.Ranks.{order_of}
-use Rattle.sm_instance.specs.Sound.{IsInstance}
+use Rattle.sm_agents.specs.Sound.{IsInstance}
 use Rattle.sm_instance.specs.declared.inputs.Input.{Input}
 use Rattle.sm_instance.specs.declared.inputs.Input.TheVariants.{Two}
 use Rattle.sm_instance.proofs.AcceptLemmas.{proposer_row_fits}

@@ -3,7 +3,7 @@ use Rattle.std.proofs.Common.{◌≡◌, ℕ, ◌+◌, ◌-◌, ◌<◌, ◌≤�
 use Rattle.std.specs.List.{range_with_len}
 use Rattle.std.proofs.lemmas.List.{get_or-map, length-map}
 use Rattle.std.proofs.lemmas.List.FromFn.{length-range_with_len, get_or-range_with_len}
-use Rattle.sm_instance.specs.Written.{Written, row}
+use Rattle.sm_agents.specs.Written.{Written, row}
 use Rattle.sm_instance.specs.Matching.{held, standing, IsMatching}
 use Rattle.sm_instance.specs.Ranks.{rank_vector_of}
 use Rattle.sm_seats.specs.Vectors.{IsAllowedRankVector}

@@ -1,7 +1,7 @@
 -- A listing that is under way, and how it ends.
 use Rattle.std.proofs.Common.{◌≡◌, ℕ, suc, ◌+◌, ◌-◌, ◌≤◌, List, [], ◌∷◌, ◌++◌, Bool, true, false, length, Option, Some, None, unwrap_or, refl, sym, ap, ◌∙◌, subst, arith}
 use Rattle.std.proofs.lemmas.List.{length-append, append_assoc, append-nil}
-use Rattle.sm_instance.specs.Written.{Written}
+use Rattle.sm_agents.specs.Written.{Written}
 use Rattle.sm_instance.specs.Ranks.{IsBefore, order_of}
 use Rattle.sm_theory.specs.Listings.{end_of, IsBehind, IsListing}
 use Rattle.sm_theory.proofs.Vectors.Order.{irreflexive, transitive}

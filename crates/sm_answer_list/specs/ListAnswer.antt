@@ -1,6 +1,6 @@
 -- The answer of `list`.
 use Rattle.std.specs.Prelude.{ℕ, List, length, Option}
-use Rattle.sm_instance.specs.Written.{Written}
+use Rattle.sm_agents.specs.Written.{Written}
 use Rattle.sm_instance.specs.Ranks.{order_of}
 use Rattle.sm_report.specs.Lines.{LineData}
 use Rattle.sm_seats.specs.Vectors.{IsAllowedRankVector}

@@ -1,6 +1,6 @@
 -- A lister of an instance.
 use Rattle.std.specs.Prelude.{◌≡◌, ℕ, List, length, Option}
-use Rattle.sm_instance.specs.Written.{Written}
+use Rattle.sm_agents.specs.Written.{Written}
 use Rattle.sm_lists.specs.EachOnce.{IsEachOnce}
 use Rattle.sm_poset.specs.Posets.{IsPoset}
 use Rattle.sm_seats.specs.SeatMarket.{seat_market}

@@ -1,6 +1,6 @@
 -- Vectors that a lister listed one after another.
 use Rattle.std.specs.Prelude.{◌≡◌, ℕ, ◌+◌, Bool, List, ◌++◌, length, None}
-use Rattle.sm_instance.specs.Written.{Written}
+use Rattle.sm_agents.specs.Written.{Written}
 use Rattle.sm_theory.specs.Listings.{end_of}
 use Rattle.sm_lister.specs.Listers.{Lister, IsSameLister}
 use Rattle.sm_lister.specs.Rests.{IsListingOf}

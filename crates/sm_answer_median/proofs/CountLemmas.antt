@@ -10,7 +10,7 @@ use Rattle.std.proofs.lemmas.List.Elements.{All-nil, All-head, All-tail, All-pus
 use Rattle.sm_lists.specs.Rows.{row, rows_of}
 use Rattle.sm_lists.proofs.ResultLemmas.{take-append_at_length}
 use Rattle.sm_lists.proofs.Counting.{eq_or_ne}
-use Rattle.sm_instance.specs.Written.{Written, row as written_row}
+use Rattle.sm_agents.specs.Written.{Written, row as written_row}
 use Rattle.sm_theory.specs.Medians.{column}
 use Rattle.sm_theory.proofs.Medians.Counts.{count_cons}
 use Rattle.sm_lattice.specs.Counts.{AreCountsOf}

@@ -6,7 +6,7 @@ use Rattle.sm_answer.specs.Lines.{lines_from}
 use Rattle.sm_answer.specs.MatchingLines.{pair_line}
 use Rattle.sm_answer.proofs.AnswerLemmas.{one_all, lines_all}
 use Rattle.sm_answer.proofs.LineLemmas.{end_sound, pair_sound}
-use Rattle.sm_instance.specs.Written.{Written}
+use Rattle.sm_agents.specs.Written.{Written}
 use Rattle.sm_instance.specs.declared.inputs.Input.{Input}
 use Rattle.sm_instance.specs.declared.inputs.Input.TheVariants.{Two}
 use Rattle.sm_report.specs.Heads.{HeadData}

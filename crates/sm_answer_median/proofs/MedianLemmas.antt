@@ -4,7 +4,7 @@ use Rattle.std.specs.List.{All}
 use Rattle.std.proofs.lemmas.List.{length-map}
 use Rattle.std.proofs.lemmas.List.Elements.{All-from_get_or}
 use Rattle.sm_lists.specs.Rows.{row}
-use Rattle.sm_instance.specs.Written.{Written}
+use Rattle.sm_agents.specs.Written.{Written}
 use Rattle.sm_instance.specs.Matching.{held, standing}
 use Rattle.sm_instance.specs.Stable.{IsStable}
 use Rattle.sm_instance.specs.Allowed.{IsAllowed}

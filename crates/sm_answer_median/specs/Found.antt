@@ -1,6 +1,6 @@
 -- What is found of the median.
 use Rattle.std.specs.Prelude.{◌≡◌, ℕ, List, length, Option}
-use Rattle.sm_instance.specs.Written.{Written}
+use Rattle.sm_agents.specs.Written.{Written}
 use Rattle.sm_answer_median.specs.MedianAnswer.{IsMedianOfAllowed, AreTooMany}
 use Rattle.sm_answer_median.specs.declared.faults.MedianFault.{MedianFault}
 use Rattle.sm_answer_median.specs.declared.faults.MedianFault.TheVariants.{TooMany, OutOfMemory}

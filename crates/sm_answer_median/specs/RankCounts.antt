@@ -1,7 +1,7 @@
 -- The ranks that vectors give each proposer, by how often each rank is given.
 use Rattle.std.specs.Prelude.{◌≡◌, ℕ, ◌+◌, ◌<◌, ◌≤◌, List, length, Option}
 use Rattle.sm_lists.specs.Rows.{row}
-use Rattle.sm_instance.specs.Written.{Written, row as written_row}
+use Rattle.sm_agents.specs.Written.{Written, row as written_row}
 use Rattle.sm_instance.specs.Matching.{standing, IsMatching}
 use Rattle.sm_theory.specs.Medians.{IsAtPlace, column}
 use Rattle.sm_lattice.specs.Counts.{AreCountsOf}

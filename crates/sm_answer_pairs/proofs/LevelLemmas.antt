@@ -10,8 +10,8 @@ use Rattle.std.proofs.lemmas.Simd.{map-map}
 use Rattle.std.proofs.lemmas.List.Kept.{IsStrictlyIncreasing-filter}
 use Rattle.sm_lists.specs.Rows.{row}
 use Rattle.sm_lists.proofs.RowLemmas.{row_in_range as list_in_range}
-use Rattle.sm_instance.specs.Written.{Written, row as written_row, entry}
-use Rattle.sm_instance.proofs.ListLemmas.{row_in_range}
+use Rattle.sm_agents.specs.Written.{Written, row as written_row, entry}
+use Rattle.sm_agents.proofs.ListLemmas.{row_in_range}
 use Rattle.sm_report.specs.Heads.{HeadData}
 use Rattle.sm_report.specs.Lines.{LineData}
 use Rattle.sm_instance.specs.Matching.{held, standing}

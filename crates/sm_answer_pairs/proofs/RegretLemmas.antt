@@ -4,8 +4,8 @@ use Rattle.std.specs.List.{All}
 use Rattle.std.proofs.lemmas.List.Elements.{All-append, All-cons}
 use Rattle.sm_answer.specs.Lines.{lines_from}
 use Rattle.sm_answer.proofs.AnswerLemmas.{lines_from-same, lines_all}
-use Rattle.sm_instance.specs.Written.{Written}
-use Rattle.sm_instance.specs.Sound.{IsInstance}
+use Rattle.sm_agents.specs.Written.{Written}
+use Rattle.sm_agents.specs.Sound.{IsInstance}
 use Rattle.sm_instance.specs.Matching.{standing}
 use Rattle.sm_instance.specs.Ranks.{regret_of as written_regret}
 use Rattle.sm_instance.specs.declared.inputs.Input.{Input}

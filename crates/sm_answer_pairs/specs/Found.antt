@@ -2,7 +2,7 @@
 use Rattle.std.specs.Prelude.{ℕ, ◌-◌, ◌<◌, ◌==◌, nat_le, Bool, List, [], ◌∷◌, ◌++◌, filter, map, length, slice_index}
 use Rattle.std.specs.List.{flat_map, range_with_len}
 use Rattle.sm_lists.specs.Rows.{row}
-use Rattle.sm_instance.specs.Written.{Written, row as written_row, entry}
+use Rattle.sm_agents.specs.Written.{Written, row as written_row, entry}
 use Rattle.sm_report.specs.Heads.{HeadData}
 use Rattle.sm_report.specs.Lines.{LineData}
 use Rattle.sm_answer_pairs.specs.PairsAnswer.{partner_line}

@@ -1,7 +1,7 @@
 -- The answer of `pairs`.
 use Rattle.std.specs.Prelude.{◌≡◌, ◌↔◌, ℕ, Bool, IsTrue, if◌then◌else◌, List, [], ◌∷◌, ◌++◌, length, map, filter}
 use Rattle.std.specs.List.{flat_map, range_with_len}
-use Rattle.sm_instance.specs.Written.{Written, row, entry}
+use Rattle.sm_agents.specs.Written.{Written, row, entry}
 use Rattle.sm_report.specs.Heads.{HeadData}
 use Rattle.sm_report.specs.Lines.{LineData}
 use Rattle.sm_answer_pairs.specs.Partners.{IsStablePlace, IsFixedPlace}

@@ -1,6 +1,6 @@
 -- Pairs that are in stable matchings of an instance.
 use Rattle.std.specs.Prelude.{◌≡◌, ℕ, List, Option, Some}
-use Rattle.sm_instance.specs.Written.{Written}
+use Rattle.sm_agents.specs.Written.{Written}
 use Rattle.sm_instance.specs.Matching.{held}
 use Rattle.sm_instance.specs.Stable.{IsStable}
 

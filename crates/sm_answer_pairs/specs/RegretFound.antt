@@ -1,7 +1,7 @@
 -- The least regret by the seats of an instance.
 use Rattle.std.specs.Prelude.{◌-◌, ◌++◌, ◌∷◌, [], List, length}
 use Rattle.sm_answer.specs.Lines.{lines_from}
-use Rattle.sm_instance.specs.Written.{Written}
+use Rattle.sm_agents.specs.Written.{Written}
 use Rattle.sm_market.specs.Pairing.{IsPairingOf}
 use Rattle.sm_report.specs.Heads.{HeadData}
 use Rattle.sm_report.specs.Lines.{LineData}

@@ -7,8 +7,8 @@ use Rattle.sm_answer.specs.Printing.{IsShown}
 use Rattle.sm_lists.specs.Rows.{agents}
 use Rattle.sm_lists.specs.Limits.{AreWithinLimits}
 use Rattle.sm_lists.proofs.RowLemmas.{row_fits}
-use Rattle.sm_instance.specs.Written.{AgentData, lists_of}
-use Rattle.sm_instance.specs.Sound.{ArePersons}
+use Rattle.sm_agents.specs.Written.{AgentData, lists_of}
+use Rattle.sm_agents.specs.Sound.{ArePersons}
 use Rattle.sm_instance.specs.declared.inputs.Input.{Input}
 use Rattle.sm_report.specs.Sound.{IsSmall}
 use Rattle.sm_room_list.specs.RoomVectors.{IsRoomVector}

@@ -1,7 +1,7 @@
 -- The answer of `solve` for roommates.
 use Rattle.std.specs.Prelude.{◌≡◌, ℕ, nat_lt, if◌then◌else◌, List, [], ◌∷◌, ◌++◌, length, Option, Some, None}
 use Rattle.sm_answer.specs.Lines.{lines_from}
-use Rattle.sm_instance.specs.Written.{AgentData, lists_of}
+use Rattle.sm_agents.specs.Written.{AgentData, lists_of}
 use Rattle.sm_lists.specs.Rows.{row}
 use Rattle.sm_report.specs.Heads.{HeadData}
 use Rattle.sm_report.specs.Lines.{LineData}

@@ -1,7 +1,7 @@
 -- The answer of `list` for roommates.
 use Rattle.std.specs.Prelude.{ℕ, List, length, Option}
 use Rattle.sm_lists.specs.Rows.{agents}
-use Rattle.sm_instance.specs.Written.{AgentData, lists_of}
+use Rattle.sm_agents.specs.Written.{AgentData, lists_of}
 use Rattle.sm_report.specs.Lines.{LineData}
 use Rattle.sm_room_list.specs.RoomVectors.{IsRoomVector}
 use Rattle.sm_answer_vectors.specs.VectorAnswer.{IsCursor, IsVectorAnswer}

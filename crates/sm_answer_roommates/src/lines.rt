@@ -5,7 +5,7 @@ ghost use Rattle.sm_answer.specs.Giving.{HasRest};
 ghost use Rattle.sm_answer.specs.Lines.{line_left};
 ghost use Rattle.sm_answer.specs.Printing.{IsShown};
 ghost use Rattle.sm_lists.specs.Rows.{rows_of};
-ghost use Rattle.sm_instance.specs.Written.{lists_of};
+ghost use Rattle.sm_agents.specs.Written.{lists_of};
 ghost use Rattle.sm_instance.specs.declared.inputs.Input.TheVariants.{Room};
 ghost use Rattle.sm_report.specs.Sound.{IsLineOf};
 ghost use Rattle.sm_theory.specs.Rooms.{IsRoomStable};

@@ -4,7 +4,7 @@ ghost use Rattle.std.specs.Prelude.{◌≡◌, ◌≤◌, ℕ, List, length, IfO
 ghost use Rattle.sm_text.specs.Limits.{most_limit};
 ghost use Rattle.sm_answer.specs.Giving.{HasRest};
 ghost use Rattle.sm_answer.specs.Printing.{IsShown};
-ghost use Rattle.sm_instance.specs.Written.{lists_of};
+ghost use Rattle.sm_agents.specs.Written.{lists_of};
 ghost use Rattle.sm_answer_vectors.specs.VectorAnswer.{IsCursor, cursor_in};
 ghost use Rattle.sm_room_list.specs.RoomListers.{IsRoomStarted};
 ghost use Rattle.sm_answer_roommates.specs.RoomListAnswer.{IsRoomListAnswer};

@@ -3,7 +3,7 @@
 ghost use Rattle.std.specs.Prelude.{◌≡◌, ℕ, ◌<◌, ◌↔◌, List, length, IfOk, IsTrue};
 ghost use Rattle.sm_answer.specs.Giving.{HasRest};
 ghost use Rattle.sm_answer.specs.Printing.{IsShown};
-ghost use Rattle.sm_instance.specs.Written.{lists_of};
+ghost use Rattle.sm_agents.specs.Written.{lists_of};
 ghost use Rattle.sm_instance.specs.declared.inputs.Input.TheVariants.{Room};
 ghost use Rattle.sm_room.specs.PartiesKept.{IsLeftOut};
 ghost use Rattle.sm_theory.specs.Partitions.{IsStablePartition, PairsFromLowest};

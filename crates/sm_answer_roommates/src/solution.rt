@@ -2,8 +2,8 @@
 
 ghost use Rattle.std.specs.Prelude.{◌≡◌, IfOk};
 ghost use Rattle.sm_lists.specs.Rows.{rows_of};
-ghost use Rattle.sm_instance.specs.Written.{lists_of};
-ghost use Rattle.sm_instance.specs.Vectors.{agents_of};
+ghost use Rattle.sm_agents.specs.Written.{lists_of};
+ghost use Rattle.sm_agents.specs.Vectors.{agents_of};
 ghost use Rattle.sm_answer_roommates.specs.Found.{IsFoundIn};
 
 use crate::parties::parties_of;

@@ -1,10 +1,10 @@
 -- Conditions by levels name proposers of the instance.
 use Rattle.std.proofs.Common.{ℕ, ◌+◌, ◌<◌, List, length, arith, sym, subst}
 use Rattle.std.proofs.lemmas.List.{get_or-map, length-map}
-use Rattle.sm_instance.specs.Written.{Written, place_of}
-use Rattle.sm_instance.specs.Sound.{IsInstance, IsPairOf}
+use Rattle.sm_agents.specs.Written.{Written, place_of}
+use Rattle.sm_agents.specs.Sound.{IsInstance, IsPairOf}
 use Rattle.sm_lists.specs.Pairs.{pair_at}
-use Rattle.sm_instance.proofs.ItemLemmas.{forced_in_range, forbidden_in_range}
+use Rattle.sm_agents.proofs.ItemLemmas.{forced_in_range, forbidden_in_range}
 use Rattle.sm_theory.specs.Vectors.{AreInRange}
 use Rattle.sm_seats.specs.Correspondence.{leveled}
 

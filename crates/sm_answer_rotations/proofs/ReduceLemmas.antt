@@ -8,14 +8,14 @@ use Rattle.std.proofs.lemmas.List.{length-map, get_or_past}
 use Rattle.std.proofs.lemmas.List.FromFn.{length-map-range_with_len, get_or-map-range_with_len}
 use Rattle.std.proofs.lemmas.List.Elements.{All-append, All-cons, All-map, All-filter}
 use Rattle.std.proofs.lemmas.Grind.{get_or_default_zero}
-use Rattle.sm_instance.specs.Written.{Written, capacity_of}
-use Rattle.sm_instance.specs.Sound.{IsInstance, is_single}
+use Rattle.sm_agents.specs.Written.{Written, capacity_of}
+use Rattle.sm_agents.specs.Sound.{IsInstance, is_single}
 use Rattle.sm_instance.specs.declared.inputs.Input.{Input}
 use Rattle.sm_instance.specs.declared.inputs.Input.TheVariants.{Two}
-use Rattle.sm_instance.specs.declared.kinds.Kind.{Kind}
-use Rattle.sm_instance.specs.declared.kinds.Kind.TheVariants.{Marriage, Hospitals, Roommates}
-use Rattle.sm_instance.specs.declared.kinds.Side.{Side}
-use Rattle.sm_instance.specs.declared.kinds.Side.TheVariants.{Proposers, Reviewers}
+use Rattle.sm_agents.specs.declared.kinds.Kind.{Kind}
+use Rattle.sm_agents.specs.declared.kinds.Kind.TheVariants.{Marriage, Hospitals, Roommates}
+use Rattle.sm_agents.specs.declared.kinds.Side.{Side}
+use Rattle.sm_agents.specs.declared.kinds.Side.TheVariants.{Proposers, Reviewers}
 use Rattle.sm_market.specs.Lists.{Lists, row, entry, IsMarket}
 use Rattle.sm_market.specs.Vectors.{rows_of, lists_of}
 use Rattle.sm_market.specs.Matching.{Places, held, IsMatching}

@@ -2,7 +2,7 @@
 use Rattle.std.proofs.Common.{◌≡◌, ℕ, ◌<◌, ◌⊎◌, List, Option, Some, None, length, refl, sym, ap, ◌∙◌, inl, inr}
 use Rattle.std.specs.Option.{option_map}
 use Rattle.sm_lists.specs.Rows.{place_on}
-use Rattle.sm_instance.specs.Written.{Written, entry as written_entry, place_of as written_place_of}
+use Rattle.sm_agents.specs.Written.{Written, entry as written_entry, place_of as written_place_of}
 use Rattle.sm_instance.specs.Matching.{held as held_there}
 use Rattle.sm_market.specs.Lists.{row, entry, place_of}
 use Rattle.sm_market.specs.Matching.{Places, held, IsMatching}

@@ -6,7 +6,7 @@ use Rattle.std.proofs.lemmas.List.{get_or-map, get_or_past, length-map}
 use Rattle.std.proofs.lemmas.List.FromFn.{get_or-map-range_with_len, length-map-range_with_len}
 use Rattle.std.proofs.lemmas.List.Sums.{passes_at_first}
 use Rattle.sm_lists.proofs.RangeLemmas.{greatest_more}
-use Rattle.sm_instance.specs.Written.{Written, place_of}
+use Rattle.sm_agents.specs.Written.{Written, place_of}
 use Rattle.sm_instance.specs.Stable.{IsStable}
 use Rattle.sm_instance.proofs.AcceptLemmas.{true_lt}
 use Rattle.sm_instance.proofs.LoadLemmas.{test_cases}

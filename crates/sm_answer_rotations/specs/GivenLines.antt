@@ -2,7 +2,7 @@
 use Rattle.std.specs.Prelude.{ℕ, ◌+◌, ◌-◌, Bool, true, false, List, [], ◌∷◌, ◌++◌, length, drop}
 use Rattle.std.specs.List.{flat_map, range_with_len}
 use Rattle.sm_answer.specs.Lines.{lines_from}
-use Rattle.sm_instance.specs.declared.kinds.Side.TheVariants.{Proposers, Reviewers}
+use Rattle.sm_agents.specs.declared.kinds.Side.TheVariants.{Proposers, Reviewers}
 use Rattle.sm_market.specs.Lists.{Lists}
 use Rattle.sm_market.specs.Matching.{Places}
 use Rattle.sm_report.specs.Heads.{HeadData}

@@ -4,13 +4,13 @@ use Rattle.std.specs.Option.{option_map}
 use Rattle.sm_market.specs.Lists.{row, entry}
 use Rattle.sm_market.specs.Matching.{Places, held}
 use Rattle.sm_market.specs.Reduced.{reduced_lists_of}
-use Rattle.sm_instance.specs.declared.kinds.Side.{Side}
-use Rattle.sm_instance.specs.declared.kinds.Side.TheVariants.{Proposers, Reviewers}
+use Rattle.sm_agents.specs.declared.kinds.Side.{Side}
+use Rattle.sm_agents.specs.declared.kinds.Side.TheVariants.{Proposers, Reviewers}
 use Rattle.sm_report.specs.declared.lines.Seat.{Seat}
 use Rattle.sm_report.specs.Heads.{HeadData}
 use Rattle.sm_report.specs.Lines.{LineData}
 use Rattle.sm_market.specs.Stable.{IsProposersBest, IsReviewersBest}
-use Rattle.sm_instance.specs.Written.{Written}
+use Rattle.sm_agents.specs.Written.{Written}
 use Rattle.sm_answer.specs.Lines.{lines_from}
 use Rattle.sm_seats.specs.SeatMarket.{seat_market}
 use Rattle.sm_seats.specs.Seating.{Seating, seating_of}

@@ -2,7 +2,7 @@
 use Rattle.std.specs.Prelude.{◌≡◌, ℕ, zero, suc, Bool, ◌&&◌, List, map, filter, fold, max, length, Option, Contains}
 use Rattle.std.specs.List.{range_with_len}
 use Rattle.std.specs.Option.{option_map}
-use Rattle.sm_instance.specs.Written.{Written, place_of}
+use Rattle.sm_agents.specs.Written.{Written, place_of}
 use Rattle.sm_instance.specs.Stable.{IsStable}
 use Rattle.sm_market.specs.Matching.{Places}
 use Rattle.sm_report.specs.declared.lines.Seat.{Seat}

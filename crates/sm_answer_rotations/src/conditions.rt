@@ -1,7 +1,7 @@
 //! The conditions of an instance, as the finders take them.
 
 ghost use Rattle.std.specs.Prelude.{◌≡◌, ◌+◌, ◌<◌, ◌^◌, length, IfOk};
-ghost use Rattle.sm_instance.specs.Sound.{IsInstance};
+ghost use Rattle.sm_agents.specs.Sound.{IsInstance};
 ghost use Rattle.sm_seats.specs.Correspondence.{leveled};
 
 use sm_instance::Instance;

@@ -10,12 +10,12 @@ use Rattle.sm_answer.specs.declared.matching_lines.PairWord.{PairWord}
 use Rattle.sm_answer.specs.declared.matching_lines.PairWord.TheVariants as word
 use Rattle.sm_answer.proofs.AnswerLemmas.{one_all, lines_all}
 use Rattle.sm_answer.proofs.LineLemmas.{end_sound}
-use Rattle.sm_instance.specs.Written.{Written}
-use Rattle.sm_instance.specs.Sound.{IsInstance}
+use Rattle.sm_agents.specs.Written.{Written}
+use Rattle.sm_agents.specs.Sound.{IsInstance}
 use Rattle.sm_instance.specs.Matching.{IsAssignment}
 use Rattle.sm_instance.specs.declared.inputs.Input.{Input}
 use Rattle.sm_instance.specs.declared.inputs.Input.TheVariants.{Two}
-use Rattle.sm_instance.specs.declared.kinds.Side.TheVariants.{Proposers}
+use Rattle.sm_agents.specs.declared.kinds.Side.TheVariants.{Proposers}
 use Rattle.sm_market.specs.Lists.{Lists, row}
 use Rattle.sm_market.specs.Matching.{Places}
 use Rattle.sm_market.specs.Pairing.{Paired}

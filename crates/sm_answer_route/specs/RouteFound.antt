@@ -1,6 +1,6 @@
 -- What `find_route` finds.
 use Rattle.std.specs.Prelude.{◌≡◌}
-use Rattle.sm_instance.specs.Written.{Written}
+use Rattle.sm_agents.specs.Written.{Written}
 use Rattle.sm_seats.specs.SeatMarket.{seat_market}
 use Rattle.sm_answer_given.specs.declared.given.Given.{Given}
 use Rattle.sm_answer_route.specs.RouteAnswer.{AreStepsBetween}

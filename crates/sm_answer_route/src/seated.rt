@@ -1,7 +1,7 @@
 //! The closed set of a stable matching.
 
 ghost use Rattle.std.specs.Prelude.{◌≡◌, IfOk};
-ghost use Rattle.sm_instance.specs.Written.{Written};
+ghost use Rattle.sm_agents.specs.Written.{Written};
 ghost use Rattle.sm_instance.specs.Stable.{IsStable};
 ghost use Rattle.sm_seats.specs.Seating.{seating_of};
 ghost use Rattle.sm_seats.specs.Correspondence.{IsSeating};

@@ -9,11 +9,11 @@ use Rattle.std.proofs.lemmas.List.Sums.{sum_by-set, sum_by-le}
 use Rattle.std.proofs.lemmas.List.FromFn.{get_or-map-range_with_len, length-map-range_with_len, length-range_with_len}
 use Rattle.sm_lists.specs.Rows.{place_on}
 use Rattle.sm_lists.proofs.PlaceLemmas.{entry-place_of, get_or-place_on}
-use Rattle.sm_instance.specs.Written.{Written, row, entry, place_of, IsAcceptable}
-use Rattle.sm_instance.specs.Faults.{HasSoundEntries}
-use Rattle.sm_instance.specs.Sound.{IsInstance}
+use Rattle.sm_agents.specs.Written.{Written, row, entry, place_of, IsAcceptable}
+use Rattle.sm_agents.specs.Faults.{HasSoundEntries}
+use Rattle.sm_agents.specs.Sound.{IsInstance}
 use Rattle.sm_instance.proofs.AcceptLemmas.{proposer_row_fits}
-use Rattle.sm_instance.proofs.ListLemmas.{row_in_range}
+use Rattle.sm_agents.proofs.ListLemmas.{row_in_range}
 use Rattle.sm_instance.proofs.PlaceLemmas.{place_of-entry}
 use Rattle.sm_market.specs.Lists.{row as seat_list, entry as seat_entry, place_of as seat_place_of}
 use Rattle.sm_accept.specs.Accepting.{AreFree, IsProgress, TakesProposal, IsTakenFor}

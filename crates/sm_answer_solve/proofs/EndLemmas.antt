@@ -6,8 +6,8 @@ use Rattle.std.proofs.lemmas.Bool.{cases_lt}
 use Rattle.std.proofs.lemmas.List.{get_or_past}
 use Rattle.std.proofs.lemmas.List.FromFn.{length-map-range_with_len}
 use Rattle.sm_lists.proofs.PlaceLemmas.{entry-place_of}
-use Rattle.sm_instance.specs.Written.{AgentData, Written, no_agent, row}
-use Rattle.sm_instance.specs.Sound.{IsInstance}
+use Rattle.sm_agents.specs.Written.{AgentData, Written, no_agent, row}
+use Rattle.sm_agents.specs.Sound.{IsInstance}
 use Rattle.sm_instance.specs.Stable.{IsProposersBest as IsWrittenProposersBest}
 use Rattle.sm_market.specs.Lists.{Lists, row as seat_list, entry as seat_entry, place_of as seat_place_of, agents, IsMarket}
 use Rattle.sm_market.specs.Matching.{held, standing, IsMatching}

@@ -2,7 +2,7 @@
 use Rattle.std.specs.Prelude.{◌≡◌, ◌≢◌, ℕ, ◌+◌, ◌<◌, ◌≤◌, ◌⊎◌, List, Option, Some, None, map, length, slice_index, slice_set, cond, nat_lt}
 use Rattle.std.specs.List.{range_with_len}
 use Rattle.sm_lists.specs.Rows.{place_on}
-use Rattle.sm_instance.specs.Written.{Written, row, entry, place_of, IsAcceptable}
+use Rattle.sm_agents.specs.Written.{Written, row, entry, place_of, IsAcceptable}
 use Rattle.sm_accept.specs.Accepting.{IsProgress}
 use Rattle.sm_seats.specs.Mutual.{mutual_row}
 use Rattle.sm_seats.specs.SeatMarket.{seat_count, seats_before, seat_market}

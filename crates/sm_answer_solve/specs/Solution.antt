@@ -2,9 +2,9 @@
 use Rattle.std.specs.Prelude.{◌≡◌, ℕ, List, [], ◌∷◌, ◌++◌, length, Option, Some}
 use Rattle.sm_answer.specs.Lines.{lines_from}
 use Rattle.sm_answer.specs.MatchingLines.{pair_line}
-use Rattle.sm_instance.specs.Written.{Written}
+use Rattle.sm_agents.specs.Written.{Written}
 use Rattle.sm_instance.specs.Stable.{IsBestOf}
-use Rattle.sm_instance.specs.declared.kinds.Side.{Side}
+use Rattle.sm_agents.specs.declared.kinds.Side.{Side}
 use Rattle.sm_report.specs.Heads.{HeadData}
 use Rattle.sm_report.specs.Lines.{LineData}
 

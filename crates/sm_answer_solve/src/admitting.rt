@@ -6,9 +6,9 @@
 //! 3.2).
 
 ghost use Rattle.std.specs.Prelude.{◌≡◌, ℕ, ◌+◌, ◌<◌, length, replicate, IfOk, OnOk, MatchOption};
-ghost use Rattle.sm_instance.specs.Sound.{IsInstance};
+ghost use Rattle.sm_agents.specs.Sound.{IsInstance};
 ghost use Rattle.sm_instance.specs.Stable.{IsBestOf};
-ghost use Rattle.sm_instance.specs.declared.kinds.Side.{Side};
+ghost use Rattle.sm_agents.specs.declared.kinds.Side.{Side};
 ghost use Rattle.sm_seats.specs.Counted.{AreSeatCounts, first_seats_of};
 ghost use Rattle.sm_answer_solve.specs.Admitting.{AreFreeSeats, IsUnderWay, IsProposed, IsProposing, IsTurnedAway, end_at, ended_places};
 

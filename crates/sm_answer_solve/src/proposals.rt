@@ -1,7 +1,7 @@
 //! Proposals, which are looked for one by one.
 
 ghost use Rattle.std.specs.Prelude.{◌≡◌, ◌<◌, length, IfOk, MatchOption};
-ghost use Rattle.sm_instance.specs.Written.{row, entry, IsAcceptable};
+ghost use Rattle.sm_agents.specs.Written.{row, entry, IsAcceptable};
 ghost use Rattle.sm_answer_solve.specs.Admitting.{IsProposalAt};
 
 use sm_instance::{CrossSearch, Instance};
@@ -24,7 +24,7 @@ pub(crate) struct Proposals<'a> {
 }
 
 impl<'a> Model for Proposals<'a> {
-    ghost use Rattle.sm_instance.specs.Written.{Written};
+    ghost use Rattle.sm_agents.specs.Written.{Written};
 
     ghost Value = { Written };
 

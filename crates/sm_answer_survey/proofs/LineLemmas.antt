@@ -9,7 +9,7 @@ use Rattle.std.proofs.lemmas.List.{length-map}
 use Rattle.sm_text.specs.Limits.{most_limit}
 use Rattle.sm_answer.specs.Giving.{HasRest}
 use Rattle.sm_tally.specs.Fold.{Feed, Shown, all_after_feeds}
-use Rattle.sm_instance.specs.Written.{Written}
+use Rattle.sm_agents.specs.Written.{Written}
 use Rattle.sm_instance.specs.declared.inputs.Input.{Input}
 use Rattle.sm_instance.specs.declared.inputs.Input.TheVariants.{Two}
 use Rattle.sm_report.specs.Heads.{HeadData}

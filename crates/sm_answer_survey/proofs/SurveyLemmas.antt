@@ -4,7 +4,7 @@ use Rattle.std.proofs.lemmas.List.{map-append, length-append, length-map}
 use Rattle.std.proofs.lemmas.List.Elements.{All-append, All-cons}
 use Rattle.sm_tally.specs.Fold.{Feed, Shown, all_after_feeds}
 use Rattle.sm_tally.proofs.Folds.{nothing_fed, one_more_fed}
-use Rattle.sm_instance.specs.Written.{Written}
+use Rattle.sm_agents.specs.Written.{Written}
 use Rattle.sm_lister.specs.Listers.{Lister, IsNextOf, IsAtEnd, IsSameLister}
 use Rattle.sm_answer_list.specs.Started.{cursor_in, IsListerOf}
 use Rattle.sm_answer_list.specs.Underway.{AreListedSoFar}

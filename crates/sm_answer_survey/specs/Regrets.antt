@@ -1,6 +1,6 @@
 -- What is kept of the last matching: ranks, the greater rank in each pair, and the greatest of these in each piece.
 use Rattle.std.specs.Prelude.{◌≡◌, ◌⊎◌, ℕ, ◌+◌, ◌*◌, ◌<◌, ◌≤◌, List, length, slice_index, Option}
-use Rattle.sm_instance.specs.Written.{Written}
+use Rattle.sm_agents.specs.Written.{Written}
 use Rattle.sm_instance.specs.Matching.{held, standing, IsMatching}
 use Rattle.sm_instance.specs.Ranks.{worse_rank}
 use Rattle.sm_answer_survey.specs.declared.regrets.Regrets.{Regrets}

@@ -3,7 +3,7 @@ use Rattle.std.specs.Prelude.{◌≡◌, ℕ, ◌<◌, ◌≤◌, Bool, List, []
 use Rattle.std.specs.List.{All}
 use Rattle.std.specs.declared.alloc.Global.{Global}
 use Rattle.sm_tally.specs.Fold.{Feed, Shown, all_after_feed, all_after_feeds}
-use Rattle.sm_instance.specs.Written.{Written}
+use Rattle.sm_agents.specs.Written.{Written}
 use Rattle.sm_lister.specs.Listers.{Lister, IsAtEnd}
 use Rattle.sm_lister.specs.Rests.{IsListingOf}
 use Rattle.sm_answer_list.specs.Started.{cursor_in}

@@ -1,7 +1,7 @@
 -- What came of a survey.
 use Rattle.std.specs.Prelude.{◌≡◌, ℕ, Bool, true, false, List, length, Option, None}
 use Rattle.sm_tally.specs.Fold.{Feed, Shown, all_after_feeds}
-use Rattle.sm_instance.specs.Written.{Written}
+use Rattle.sm_agents.specs.Written.{Written}
 use Rattle.sm_theory.specs.Listings.{end_of}
 use Rattle.sm_answer_list.specs.Started.{cursor_in}
 use Rattle.sm_answer_survey.specs.SurveyAnswer.{vectors_of, AreSurveyed}

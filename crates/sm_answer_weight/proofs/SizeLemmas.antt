@@ -6,8 +6,8 @@ use Rattle.std.proofs.lemmas.Bool.{cases_lt}
 use Rattle.std.proofs.lemmas.Int.{ints}
 use Rattle.std.proofs.lemmas.List.{get_or_past}
 use Rattle.std.proofs.lemmas.List.Elements.{All-map}
-use Rattle.sm_instance.specs.Written.{Written}
-use Rattle.sm_instance.specs.declared.kinds.Measure.{Measure}
+use Rattle.sm_agents.specs.Written.{Written}
+use Rattle.sm_agents.specs.declared.kinds.Measure.{Measure}
 use Rattle.sm_market.specs.Lists.{Lists, row, agents, place_of}
 use Rattle.sm_market.specs.Matching.{Places, held}
 use Rattle.sm_theory.specs.Rotations.{proposer_at, reviewer_at, target_at}

@@ -1,6 +1,6 @@
 -- The lightest allowed matching by the seats of an instance.
 use Rattle.std.specs.Prelude.{◌≡◌, ℕ, suc, length, map, All}
-use Rattle.sm_instance.specs.Written.{Written}
+use Rattle.sm_agents.specs.Written.{Written}
 use Rattle.sm_instance.specs.Ranks.{weight_of, second_of}
 use Rattle.sm_market.specs.Pairing.{IsPairingOf}
 use Rattle.sm_report.specs.Sound.{IsSmall, IsLarge}

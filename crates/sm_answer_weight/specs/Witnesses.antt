@@ -1,10 +1,10 @@
 -- Worked answers: three proposers who go round in a cycle, of whom the first weighs 4 with its second choice and -10 with its third
 -- one; and the net of residents who turn.
 use Rattle.std.specs.Prelude.{◌≡◌, ℕ, Bool, true, false, List, [], ◌∷◌, map, pos, negsuc}
-use Rattle.sm_instance.specs.Written.{Written, plain_written}
+use Rattle.sm_agents.specs.Written.{Written, plain_written}
 use Rattle.sm_instance.specs.Witnesses.{agent}
-use Rattle.sm_instance.specs.declared.kinds.Kind.TheVariants.{Marriage}
-use Rattle.sm_instance.specs.declared.kinds.Measure.TheVariants.{Given}
+use Rattle.sm_agents.specs.declared.kinds.Kind.TheVariants.{Marriage}
+use Rattle.sm_agents.specs.declared.kinds.Measure.TheVariants.{Given}
 use Rattle.sm_report.specs.Heads.{HeadData}
 use Rattle.sm_report.specs.Lines.{LineData}
 use Rattle.sm_report.specs.Texts.{SOURCE, SINK}

@@ -6,7 +6,7 @@ use Rattle.std.proofs.lemmas.Bool.{false≢true}
 use Rattle.std.proofs.lemmas.List.{length-map}
 use Rattle.std.proofs.lemmas.List.Folds.{list_all_at}
 use Rattle.sm_text.specs.Lines.{lines}
-use Rattle.sm_instance.specs.Written.{Written, AgentData}
+use Rattle.sm_agents.specs.Written.{Written, AgentData}
 use Rattle.sm_instance.specs.declared.inputs.Input.{Input}
 use Rattle.sm_instance.specs.declared.inputs.Input.TheVariants.{Two, Room}
 use Rattle.sm_report.specs.Heads.{HeadData}

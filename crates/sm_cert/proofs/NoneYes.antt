@@ -8,7 +8,7 @@ use Rattle.std.proofs.lemmas.List.FromFn.{get_or-map-range_with_len}
 use Rattle.std.proofs.lemmas.List.Folds.{list_any-append}
 use Rattle.std.proofs.lemmas.List.Elements.{Contains-append_cases, All-get_or}
 use Rattle.std.proofs.lemmas.Option.{slice_get_within, get_or_from_slice_get}
-use Rattle.sm_instance.specs.Written.{AgentData, lists_of}
+use Rattle.sm_agents.specs.Written.{AgentData, lists_of}
 use Rattle.sm_instance.specs.declared.inputs.Input.TheVariants.{Room}
 use Rattle.sm_theory.specs.Partitions.{successor_in, after, IsInOddParty}
 use Rattle.sm_theory.proofs.Room.Partitions.{odd_party_excludes}

@@ -3,7 +3,7 @@ use Rattle.std.proofs.Common.{◌≡◌, ℕ, inl, inr, arith, refl, sym, false,
 use Rattle.std.specs.Prelude.{IfSome}
 use Rattle.std.specs.List.{slice_get}
 use Rattle.std.proofs.lemmas.List.FromFn.{length-map-range_with_len}
-use Rattle.sm_instance.specs.Written.{Written}
+use Rattle.sm_agents.specs.Written.{Written}
 use Rattle.sm_market.specs.Lists.{Lists}
 use Rattle.sm_market.specs.Stable.{IsProposersBest, IsReviewersBest}
 use Rattle.sm_market.specs.Reduced.{reduced_row, reduced_lists_of}

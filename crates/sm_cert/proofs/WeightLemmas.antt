@@ -2,10 +2,10 @@
 use Rattle.std.proofs.Common.{◌≡◌, ℕ, zero, suc, ◌<◌, ◌≤◌, inl, inr, arith, refl, sym, List, [], ◌∷◌, take, drop, None, Some, Option, ℤ, pos, negsuc, true, false, subst, ne_eqb, length}
 use Rattle.std.specs.Prelude.{Contains, IfSome, ◌↔◌, ◌⊎◌, not, Bool, All}
 use Rattle.std.proofs.lemmas.Option.{none-some, same_Some}
-use Rattle.sm_instance.specs.declared.kinds.Measure.TheVariants.{Given}
+use Rattle.sm_agents.specs.declared.kinds.Measure.TheVariants.{Given}
 use Rattle.sm_instance.specs.Allowed.{IsAllowed}
 use Rattle.sm_instance.specs.Matching.{IsMatching, load, held}
-use Rattle.sm_instance.specs.Written.{capacity_of, IsAcceptable, entry, row}
+use Rattle.sm_agents.specs.Written.{capacity_of, IsAcceptable, entry, row}
 use Rattle.sm_market.specs.Stable.{IsStable, IsProposersBest}
 use Rattle.sm_theory.specs.Witnesses.{three_cycle, three_cycle_first, three_cycle_chain}
 use Rattle.sm_theory.specs.Chains.{AreNeedsOf, IsNeededBy, rotation_at, stage}

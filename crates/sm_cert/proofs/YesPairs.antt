@@ -9,7 +9,7 @@ use Rattle.std.proofs.lemmas.Option.{same_Some}
 use Rattle.sm_lists.specs.Rows.{place_on}
 use Rattle.sm_lists.proofs.PlaceLemmas.{get_or-place_on}
 use Rattle.sm_lists.proofs.RowLemmas.{row_in_range}
-use Rattle.sm_instance.specs.Written.{Written, lists_of, place_of as written_place_of}
+use Rattle.sm_agents.specs.Written.{Written, lists_of, place_of as written_place_of}
 use Rattle.sm_instance.proofs.CrossLemmas.{row-lists_of}
 use Rattle.sm_market.specs.Lists.{row, entry, place_of}
 use Rattle.sm_market.specs.Matching.{held}

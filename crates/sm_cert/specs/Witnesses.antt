@@ -1,8 +1,8 @@
 -- Worked answers and their verdicts, so that the definition of a verdict is not about nothing.
 use Rattle.std.specs.Prelude.{ℕ, List, [], ◌∷◌, None, codes}
-use Rattle.sm_instance.specs.Written.{AgentData, Written, plain_written}
+use Rattle.sm_agents.specs.Written.{AgentData, Written, plain_written}
 use Rattle.sm_instance.specs.declared.inputs.Input.TheVariants.{Two, Room}
-use Rattle.sm_instance.specs.declared.kinds.Kind.TheVariants.{Marriage}
+use Rattle.sm_agents.specs.declared.kinds.Kind.TheVariants.{Marriage}
 use Rattle.sm_report.specs.Heads.{HeadData}
 use Rattle.sm_report.specs.Lines.{LineData}
 use Rattle.sm_report.specs.Witnesses.{first_seat_of}

@@ -1,8 +1,8 @@
 -- Three proposers and three reviewers, the answer of `weight by=given` over them, and what is wrong with others.
 use Rattle.std.specs.Prelude.{◌≡◌, ℕ, true, List, [], ◌∷◌, codes, pos, negsuc}
-use Rattle.sm_instance.specs.Written.{Written, plain_written}
-use Rattle.sm_instance.specs.declared.kinds.Kind.TheVariants.{Marriage}
-use Rattle.sm_instance.specs.declared.kinds.Measure.TheVariants.{Given}
+use Rattle.sm_agents.specs.Written.{Written, plain_written}
+use Rattle.sm_agents.specs.declared.kinds.Kind.TheVariants.{Marriage}
+use Rattle.sm_agents.specs.declared.kinds.Measure.TheVariants.{Given}
 use Rattle.sm_instance.specs.declared.inputs.Input.TheVariants.{Two}
 use Rattle.sm_report.specs.Heads.{HeadData}
 use Rattle.sm_report.specs.Lines.{LineData}

@@ -1,13 +1,13 @@
 -- What a yes on an answer means.
 use Rattle.std.specs.Prelude.{◌≡◌, ◌≢◌, ℕ, ◌+◌, ◌<◌, ◌≤◌, ◌↔◌, List, [], ◌∷◌, length, filter_map, take, ◌==◌, if◌then◌else◌, count_by, Option, None, Some, slice_index, slice_index_or, Contains, Bool, true}
 use Rattle.std.specs.List.{slice_get}
-use Rattle.sm_instance.specs.Written.{Written, AgentData, lists_of}
+use Rattle.sm_agents.specs.Written.{Written, AgentData, lists_of}
 use Rattle.sm_instance.specs.Stable.{IsStable, IsBestOf}
 use Rattle.sm_instance.specs.Allowed.{IsAllowed}
 use Rattle.sm_instance.specs.Ranks.{IsBefore, regret_of, weight_of, second_of, order_of}
-use Rattle.sm_instance.specs.declared.kinds.Measure.{Measure}
-use Rattle.sm_instance.specs.Sound.{IsInstance}
-use Rattle.sm_instance.specs.declared.kinds.Side.{Side}
+use Rattle.sm_agents.specs.declared.kinds.Measure.{Measure}
+use Rattle.sm_agents.specs.Sound.{IsInstance}
+use Rattle.sm_agents.specs.declared.kinds.Side.{Side}
 use Rattle.sm_instance.specs.declared.inputs.Input.{Input}
 use Rattle.sm_instance.specs.declared.inputs.Input.TheVariants.{Two, Room}
 use Rattle.sm_market.specs.Lists.{place_of}

@@ -2,7 +2,7 @@
 use Rattle.std.proofs.Common.{◌≡◌, ◌≢◌, ℕ, ◌<◌, List, [], ◌∷◌, ◌++◌, Option, Some, None, Bool, length, set, arith, refl, sym, ap, ◌∙◌, subst}
 use Rattle.std.proofs.lemmas.Bool.{false≢true}
 use Rattle.std.proofs.lemmas.List.{get_or-set_same}
-use Rattle.sm_instance.specs.Written.{Written, place_of}
+use Rattle.sm_agents.specs.Written.{Written, place_of}
 use Rattle.sm_instance.specs.Matching.{held, IsAssignment}
 use Rattle.sm_instance.specs.Stable.{IsStable}
 use Rattle.sm_theory.specs.Choices.{chosen}

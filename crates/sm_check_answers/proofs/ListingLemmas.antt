@@ -2,7 +2,7 @@
 use Rattle.std.proofs.Common.{◌≡◌, ℕ, ◌+◌, arith, refl, sym, ap, ◌∙◌, List, [], ◌∷◌, ◌++◌, length, append-nil, lt-ltb, Option, None, Some, eqb-true, length-append, subst, true, Vec, Global}
 use Rattle.std.specs.Prelude.{if◌then◌else◌}
 use Rattle.std.proofs.lemmas.List.Elements.{filter_map-append}
-use Rattle.sm_instance.specs.Written.{Written}
+use Rattle.sm_agents.specs.Written.{Written}
 use Rattle.sm_theory.specs.Listings.{end_of}
 use Rattle.sm_report.specs.declared.lines.Line.{Line}
 use Rattle.sm_report.specs.declared.lines.Line.TheVariants as line

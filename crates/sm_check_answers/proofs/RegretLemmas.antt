@@ -6,7 +6,7 @@ use Rattle.std.specs.Option.{option_or}
 use Rattle.std.proofs.lemmas.Bool.{false≢true}
 use Rattle.std.proofs.lemmas.Option.{unwrap_or-slice_get}
 use Rattle.std.proofs.lemmas.List.Elements.{filter_map-append}
-use Rattle.sm_instance.specs.Written.{Written}
+use Rattle.sm_agents.specs.Written.{Written}
 use Rattle.sm_report.specs.Lines.{LineData}
 use Rattle.sm_pairs.specs.declared.holding.Holding.{Holding}
 use Rattle.sm_check_clauses.specs.declared.verdicts.Reason.{Reason}

@@ -6,12 +6,12 @@ use Rattle.std.specs.Prelude.{if◌then◌else◌}
 use Rattle.std.proofs.lemmas.Option.{same_Some}
 use Rattle.sm_lists.proofs.Counting.{lt_or_le, eq_or_ne}
 use Rattle.sm_lists.proofs.PlaceLemmas.{get_or-place_on}
-use Rattle.sm_instance.specs.Written.{Written, row, entry, place_of, capacity_of, IsAcceptable}
-use Rattle.sm_instance.specs.Sound.{IsInstance}
+use Rattle.sm_agents.specs.Written.{Written, row, entry, place_of, capacity_of, IsAcceptable}
+use Rattle.sm_agents.specs.Sound.{IsInstance}
 use Rattle.sm_instance.specs.Matching.{held, leads_to, is_at, load_before, load, standing, IsAssignment, IsMatching}
 use Rattle.sm_instance.specs.Stable.{HasWorse, Blocks, IsStable, IsGainLimit}
 use Rattle.sm_instance.specs.Crosses.{cross_place}
-use Rattle.sm_instance.proofs.ListLemmas.{row_in_range}
+use Rattle.sm_agents.proofs.ListLemmas.{row_in_range}
 use Rattle.sm_instance.proofs.PlaceLemmas.{place_of-entry}
 use Rattle.sm_instance.proofs.AcceptLemmas.{cross_some, accepts_at, one_sided_at}
 use Rattle.sm_instance.proofs.LoadLemmas.{load_before-suc, test_cases, place_at, at_place}

@@ -6,7 +6,7 @@ use Rattle.std.proofs.lemmas.List.FromFn.{get_or-map-range_with_len, length-map-
 use Rattle.std.proofs.lemmas.List.{get_or_past}
 use Rattle.std.proofs.lemmas.Option.{none-some, same_Some}
 use Rattle.sm_lists.proofs.Counting.{lt_or_le, less_same_more}
-use Rattle.sm_instance.specs.Written.{Written, row, entry, capacity_of, IsAcceptable}
+use Rattle.sm_agents.specs.Written.{Written, row, entry, capacity_of, IsAcceptable}
 use Rattle.sm_instance.specs.Matching.{held, standing, IsAssignment, IsMatching, IsBreach, IsFirstBreach, is_at, leads_to, load_before}
 use Rattle.sm_instance.proofs.LoadLemmas.{load_before-suc_at}
 use Rattle.sm_instance.proofs.BreachLemmas.{load_mono}

@@ -1,6 +1,6 @@
 -- What is kept of the lines of an answer of `meet` or `join`.
 use Rattle.std.specs.Prelude.{◌≡◌, ℕ, Bool, List, Option}
-use Rattle.sm_instance.specs.Written.{Written}
+use Rattle.sm_agents.specs.Written.{Written}
 use Rattle.sm_report.specs.Lines.{LineData}
 use Rattle.sm_theory.specs.declared.choice.Choice.{Choice}
 use Rattle.sm_pairs.specs.declared.holding.Holding.{Holding}

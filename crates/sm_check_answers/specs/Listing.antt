@@ -1,6 +1,6 @@
 -- What is kept of the lines of `list`, and what is known on the way through a vector.
 use Rattle.std.specs.Prelude.{◌≡◌, ℕ, ◌+◌, ◌<◌, ◌≤◌, ◌↔◌, nat_lt, if◌then◌else◌, Bool, IsTrue, IfSome, List, length, Option, None, Some, slice_index, slice_index_or}
-use Rattle.sm_instance.specs.Written.{Written, row}
+use Rattle.sm_agents.specs.Written.{Written, row}
 use Rattle.sm_theory.specs.Listings.{end_of}
 use Rattle.sm_report.specs.Lines.{LineData}
 use Rattle.sm_check_clauses.specs.Said.{vectors_in}

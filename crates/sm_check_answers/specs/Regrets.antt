@@ -1,7 +1,7 @@
 -- The clauses on regrets at the end of an answer, and what is kept above it.
 use Rattle.std.specs.Prelude.{◌≡◌, ℕ, List, Option, filter_map}
 use Rattle.std.specs.List.{slice_get}
-use Rattle.sm_instance.specs.Written.{Written}
+use Rattle.sm_agents.specs.Written.{Written}
 use Rattle.sm_instance.specs.Stable.{IsStable}
 use Rattle.sm_instance.specs.Allowed.{IsAllowed}
 use Rattle.sm_instance.specs.Ranks.{regret_of}

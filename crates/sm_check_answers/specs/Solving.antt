@@ -1,6 +1,6 @@
 -- What is kept of the lines of an answer of `solve`.
 use Rattle.std.specs.Prelude.{◌≡◌, List}
-use Rattle.sm_instance.specs.Written.{Written}
+use Rattle.sm_agents.specs.Written.{Written}
 use Rattle.sm_seats.specs.Seating.{Seating, seating_of}
 use Rattle.sm_pairs.specs.declared.holding.Holding.{Holding}
 use Rattle.sm_report.specs.Lines.{LineData}

@@ -1,6 +1,6 @@
 -- What is kept of a vector's matching, so that the next one is tried only where it differs.
 use Rattle.std.specs.Prelude.{◌≡◌, ℕ, ◌<◌, ◌≤◌, ◌⊎◌, Bool, true, false, List, length, Option, IfSome, slice_index, slice_index_or}
-use Rattle.sm_instance.specs.Written.{Written, entry, place_of}
+use Rattle.sm_agents.specs.Written.{Written, entry, place_of}
 use Rattle.sm_instance.specs.Matching.{held, IsMatching}
 use Rattle.sm_instance.specs.Stable.{Blocks, IsStable, IsGainLimit}
 use Rattle.sm_check_clauses.specs.declared.verdicts.Reason.{Reason}

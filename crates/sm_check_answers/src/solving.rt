@@ -1,7 +1,7 @@
 //! Answers of `solve` over an instance with two sides.
 
 ghost use Rattle.std.specs.Prelude.{◌≡◌, ℕ, ◌+◌, ◌<◌, ◌^◌, ◌↔◌, ◌∷◌, ◌++◌, [], List, All, Some, length, map, IsTrue, IfOk};
-ghost use Rattle.sm_instance.specs.Written.{Written};
+ghost use Rattle.sm_agents.specs.Written.{Written};
 ghost use Rattle.sm_instance.specs.Stable.{IsStable, IsBestOf};
 ghost use Rattle.sm_seats.specs.Seating.{seating_of};
 ghost use Rattle.sm_pairs.specs.Holding.{IsHolding};

@@ -1,10 +1,10 @@
 //! Whether a vector's matching is one, and stable, where that of the vector before is: only what changed is tried.
 
 ghost use Rattle.std.specs.Prelude.{◌≡◌, ℕ, ◌<◌, ◌≤◌, ◌⊎◌, ◌↔◌, true, false, Some, None, IsTrue, length, slice_index};
-ghost use Rattle.sm_instance.specs.Written.{row, entry, capacity_of, IsAcceptable};
+ghost use Rattle.sm_agents.specs.Written.{row, entry, capacity_of, IsAcceptable};
 ghost use Rattle.sm_instance.specs.Matching.{held, standing, load, IsAssignment, IsMatching};
 ghost use Rattle.sm_instance.specs.Stable.{Blocks, HasWorse, IsStable, IsGainLimit};
-ghost use Rattle.sm_instance.specs.Sound.{IsInstance};
+ghost use Rattle.sm_agents.specs.Sound.{IsInstance};
 ghost use Rattle.sm_check_clauses.specs.Verdicts.{Finds};
 ghost use Rattle.sm_check_answers.specs.Tried.{AreLimits, is_touched, IsTouchedAt, AreTouched, IsUnblockedFrom, BlocksNoneFrom, StableHolds, HasTrialRoom, IsTried};
 

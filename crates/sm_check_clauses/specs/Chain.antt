@@ -1,6 +1,6 @@
 -- The clauses on reduced lists and on chains of rotations.
 use Rattle.std.specs.Prelude.{◌≡◌, ℕ, ◌-◌, ◌<◌, ◌==◌, List, length, map, count_by, IfSome}
-use Rattle.sm_instance.specs.Written.{Written}
+use Rattle.sm_agents.specs.Written.{Written}
 use Rattle.sm_market.specs.Lists.{Lists, row}
 use Rattle.sm_market.specs.Matching.{Places}
 use Rattle.sm_market.specs.Reduced.{reduced_lists_of}

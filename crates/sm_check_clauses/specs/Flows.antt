@@ -1,10 +1,10 @@
 -- The clauses on gains, flows, cuts and the lightest matching.
 use Rattle.std.specs.Prelude.{◌≡◌, ℕ, suc, ◌+◌, ◌≤◌, ◌==◌, nat_le, Bool, if◌then◌else◌, List, [], map, length, Option, ℤ, IfSome, filter_map, Contains}
 use Rattle.std.specs.List.{range_with_len, list_any}
-use Rattle.sm_instance.specs.Written.{Written}
+use Rattle.sm_agents.specs.Written.{Written}
 use Rattle.sm_instance.specs.Allowed.{IsAllowed}
 use Rattle.sm_instance.specs.Ranks.{weight_of, second_of}
-use Rattle.sm_instance.specs.declared.kinds.Measure.{Measure}
+use Rattle.sm_agents.specs.declared.kinds.Measure.{Measure}
 use Rattle.sm_theory.specs.Chains.{rotation_at}
 use Rattle.sm_theory.specs.ClosedSets.{IsClosed, matching_of}
 use Rattle.sm_theory.specs.Weights.{gain_of}

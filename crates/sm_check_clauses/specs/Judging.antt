@@ -1,6 +1,6 @@
 -- What the clauses of an answer are, by its head; and what comes of checking a text.
 use Rattle.std.specs.Prelude.{ℕ, List, ◌∷◌, Some}
-use Rattle.sm_instance.specs.Written.{Written, AgentData}
+use Rattle.sm_agents.specs.Written.{Written, AgentData}
 use Rattle.sm_instance.specs.declared.inputs.Input.{Input}
 use Rattle.sm_instance.specs.declared.inputs.Input.TheVariants.{Two, Room}
 use Rattle.sm_theory.specs.declared.choice.Choice.TheVariants.{Better, Worse}

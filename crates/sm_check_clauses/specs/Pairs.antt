@@ -1,9 +1,9 @@
 -- The clauses on matchings that an answer writes by pairs of a proposer and a reviewer.
 use Rattle.std.specs.Prelude.{◌≡◌, ℕ, List, Option, None, Some, IsSome, IfSome}
-use Rattle.sm_instance.specs.Written.{Written, place_of}
+use Rattle.sm_agents.specs.Written.{Written, place_of}
 use Rattle.sm_instance.specs.Matching.{held}
 use Rattle.sm_instance.specs.Stable.{IsStable, IsBestOf}
-use Rattle.sm_instance.specs.declared.kinds.Side.{Side}
+use Rattle.sm_agents.specs.declared.kinds.Side.{Side}
 use Rattle.sm_theory.specs.declared.choice.Choice.{Choice}
 use Rattle.sm_report.specs.Lines.{LineData}
 use Rattle.sm_pairs.specs.Held.{partner_in, places_in, CanFollow}

@@ -2,7 +2,7 @@
 use Rattle.std.specs.Prelude.{◌≡◌, ℕ, ◌+◌, ◌*◌, ◌<◌, ◌==◌, if◌then◌else◌, List, [], ◌∷◌, ◌++◌, length, map, find, count_by, Option, IfSome, slice_index, Contains}
 use Rattle.std.specs.List.{range_with_len, list_any, position_or_len, flat_map}
 use Rattle.std.specs.Option.{option_map_or}
-use Rattle.sm_instance.specs.Written.{AgentData, lists_of}
+use Rattle.sm_agents.specs.Written.{AgentData, lists_of}
 use Rattle.sm_theory.specs.Rooms.{IsAcceptable, IsRoomStable}
 use Rattle.sm_theory.specs.Partitions.{IsStablePartition}
 use Rattle.sm_report.specs.Lines.{LineData}

@@ -1,7 +1,7 @@
 -- What the lines of an answer say, keyword by keyword.
 use Rattle.std.specs.Prelude.{ℕ, not, Bool, true, false, List, map, Option, None, Some, filter_map, slice_index_or, pred, ℤ, IsTrue}
 use Rattle.std.specs.List.{list_all}
-use Rattle.sm_instance.specs.Written.{Written}
+use Rattle.sm_agents.specs.Written.{Written}
 use Rattle.sm_report.specs.Lines.{LineData}
 use Rattle.sm_theory.specs.declared.flow_lines.FlowLine.{FlowLine}
 use Rattle.sm_check_forms.specs.Seats.{seat_number, seat_numbers, all_numbered}

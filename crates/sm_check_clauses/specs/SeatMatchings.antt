@@ -1,7 +1,7 @@
 -- The clauses on matchings that an answer writes by pairs of a proposer and a seat.
 use Rattle.std.specs.Prelude.{◌≡◌, ℕ, ◌<◌, ◌==◌, not, false, List, length, map, None, IfSome, slice_index_or}
 use Rattle.std.specs.Option.{option_map}
-use Rattle.sm_instance.specs.Written.{Written}
+use Rattle.sm_agents.specs.Written.{Written}
 use Rattle.sm_market.specs.Lists.{Lists, row, place_of, agents}
 use Rattle.sm_market.specs.Matching.{Places}
 use Rattle.sm_market.specs.Stable.{IsStable, IsProposersBest, IsReviewersBest}

@@ -1,7 +1,7 @@
 -- The clauses on lists of rank vectors and on regrets.
 use Rattle.std.specs.Prelude.{◌≡◌, ℕ, ◌-◌, ◌<◌, nat_le, if◌then◌else◌, List, length, map, Option, None, Some, IfSome, slice_index}
 use Rattle.std.specs.List.{range_with_len}
-use Rattle.sm_instance.specs.Written.{Written, row}
+use Rattle.sm_agents.specs.Written.{Written, row}
 use Rattle.sm_instance.specs.Matching.{IsMatching}
 use Rattle.sm_instance.specs.Stable.{IsStable}
 use Rattle.sm_instance.specs.Allowed.{IsAllowed}

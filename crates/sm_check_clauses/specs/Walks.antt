@@ -1,7 +1,7 @@
 -- A chain of rotations that an answer writes, as far as it was read.
 use Rattle.std.specs.Prelude.{◌≡◌, ℕ, true, false, List, length, Option, Some, None}
 use Rattle.std.specs.List.{list_all, sum_by}
-use Rattle.sm_instance.specs.Written.{Written}
+use Rattle.sm_agents.specs.Written.{Written}
 use Rattle.sm_market.specs.Lists.{Lists, IsMarket}
 use Rattle.sm_market.specs.Matching.{Places}
 use Rattle.sm_market.specs.Pairing.{IsPairingOf}

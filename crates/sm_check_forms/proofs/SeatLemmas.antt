@@ -1,7 +1,7 @@
 -- Seats by the first seats of reviewers.
 use Rattle.std.proofs.Common.{◌≡◌, ℕ, ◌+◌, ◌-◌, ◌<◌, ◌≤◌, nat_le, true, leb-true, arith, ap, ◌∙◌, List, length, slice_index_or}
 use Rattle.std.proofs.lemmas.List.FromFn.{get_or-map-range_with_len, length-map-range_with_len}
-use Rattle.sm_instance.specs.Written.{Written}
+use Rattle.sm_agents.specs.Written.{Written}
 use Rattle.sm_report.specs.declared.lines.Seat.{Seat}
 use Rattle.sm_check_forms.specs.Seats.{is_seat}
 use Rattle.sm_seats.specs.SeatMarket.{seat_count, seats_before, seat_market}

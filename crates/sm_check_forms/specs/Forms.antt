@@ -1,7 +1,7 @@
 -- The form of an answer: its layouts by its head, and what each of its lines has to be on its own.
 use Rattle.std.specs.Prelude.{◌≡◌, ℕ, ◌==◌, nat_lt, nat_le, Bool, true, false, List, [], ◌∷◌, map, length, Some, All}
 use Rattle.std.specs.List.{list_all}
-use Rattle.sm_instance.specs.Written.{Written}
+use Rattle.sm_agents.specs.Written.{Written}
 use Rattle.sm_instance.specs.declared.inputs.Input.{Input}
 use Rattle.sm_instance.specs.declared.inputs.Input.TheVariants.{Two, Room}
 use Rattle.sm_seats.specs.Levels.{has_two_levels}

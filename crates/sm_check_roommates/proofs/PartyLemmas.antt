@@ -13,7 +13,7 @@ use Rattle.std.proofs.lemmas.List.Sums.{sum_by-append, sum_by-cons}
 use Rattle.std.proofs.lemmas.List.Elements.{Contains-append_left, Contains-append_right, Contains-append_cases, filter_map-append}
 use Rattle.sm_lists.proofs.PlaceLemmas.{place_on_is}
 use Rattle.sm_lists.proofs.ResultLemmas.{same_bool}
-use Rattle.sm_instance.specs.Written.{AgentData, lists_of}
+use Rattle.sm_agents.specs.Written.{AgentData, lists_of}
 use Rattle.sm_theory.specs.Partitions.{IsStablePartition}
 use Rattle.sm_report.specs.declared.lines.Line.{Line}
 use Rattle.sm_report.specs.Lines.{LineData, line_of}

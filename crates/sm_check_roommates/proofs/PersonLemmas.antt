@@ -4,8 +4,8 @@ use Rattle.std.specs.Prelude.{Contains}
 use Rattle.std.proofs.lemmas.Bool.{false≢true, cases_eq}
 use Rattle.std.proofs.lemmas.List.{length-map}
 use Rattle.sm_lists.specs.Limits.{AreWithinLimits}
-use Rattle.sm_instance.specs.Written.{AgentData, lists_of}
-use Rattle.sm_instance.specs.Sound.{ArePersons}
+use Rattle.sm_agents.specs.Written.{AgentData, lists_of}
+use Rattle.sm_agents.specs.Sound.{ArePersons}
 use Rattle.sm_instance.proofs.CrossLemmas.{row-lists_of, lists_within}
 use Rattle.sm_theory.specs.Rooms.{AreRoomLists}
 use Rattle.sm_check_roommates.specs.PartiesKept.{is_among}

@@ -1,6 +1,6 @@
 -- What is kept of the couples that an answer has written so far.
 use Rattle.std.specs.Prelude.{◌≡◌, ℕ, ◌<◌, ◌++◌, ◌∷◌, [], Bool, true, false, List, Option, IfSome, length}
-use Rattle.sm_instance.specs.Written.{AgentData, lists_of}
+use Rattle.sm_agents.specs.Written.{AgentData, lists_of}
 use Rattle.sm_theory.specs.Rooms.{IsRoomMatching, mate_of}
 use Rattle.sm_report.specs.Lines.{LineData}
 use Rattle.sm_pairs.specs.Held.{partner_in}

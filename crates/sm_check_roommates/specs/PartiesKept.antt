@@ -1,7 +1,7 @@
 -- What is kept of the parties that an answer has written so far.
 use Rattle.std.specs.Prelude.{◌≡◌, ◌≢◌, ℕ, ◌+◌, ◌*◌, ◌<◌, ◌==◌, ◌⊎◌, ◌↔◌, ◌++◌, ◌∷◌, [], if◌then◌else◌, Bool, true, false, IsTrue, List, length, slice_index, slice_index_or}
 use Rattle.std.specs.List.{list_any}
-use Rattle.sm_instance.specs.Written.{AgentData, lists_of}
+use Rattle.sm_agents.specs.Written.{AgentData, lists_of}
 use Rattle.sm_report.specs.Lines.{LineData}
 use Rattle.sm_check_clauses.specs.Said.{parties_in}
 use Rattle.sm_check_clauses.specs.Rooming.{members_of, next_of, AreNew, HasOddParty}

@@ -1,7 +1,7 @@
 //! Answers of `solve` for roommates that write a matching.
 
 ghost use Rattle.std.specs.Prelude.{◌≡◌, ℕ, ◌+◌, ◌<◌, ◌^◌, ◌∷◌, ◌++◌, [], List, All, None, length, map, replicate, IfOk};
-ghost use Rattle.sm_instance.specs.Written.{AgentData, lists_of};
+ghost use Rattle.sm_agents.specs.Written.{AgentData, lists_of};
 ghost use Rattle.sm_theory.specs.Rooms.{IsRoomMatching};
 ghost use Rattle.sm_report.specs.Lines.{LineData, line_of};
 ghost use Rattle.sm_check_clauses.specs.Verdicts.{AtLine, Finds, IsVerdict};

@@ -1,7 +1,7 @@
 //! Answers of `solve` for roommates that write parties.
 
 ghost use Rattle.std.specs.Prelude.{◌≡◌, ◌≢◌, ◌⊎◌, ℕ, ◌+◌, ◌<◌, ◌^◌, ◌↔◌, [], List, All, length, map, slice_index, IsTrue, IfOk, EachIndex, false, true};
-ghost use Rattle.sm_instance.specs.Written.{AgentData, lists_of};
+ghost use Rattle.sm_agents.specs.Written.{AgentData, lists_of};
 ghost use Rattle.sm_report.specs.Lines.{LineData, line_of};
 ghost use Rattle.sm_check_clauses.specs.Verdicts.{AtLine, Finds, IsVerdict};
 ghost use Rattle.sm_check_clauses.specs.Judging.{parties, Clauses};

@@ -1,10 +1,10 @@
 -- The clauses on what is claimed behind the rotations, line by line.
 use Rattle.std.proofs.Common.{◌≡◌, ℕ, ◌<◌, ◌∙◌, arith, List, Option, ℤ, true, refl, sym, subst}
 use Rattle.std.proofs.lemmas.Bool.{false≢true}
-use Rattle.sm_instance.specs.Written.{Written}
+use Rattle.sm_agents.specs.Written.{Written}
 use Rattle.sm_instance.specs.Ranks.{second_of, second_weight_of}
-use Rattle.sm_instance.specs.declared.kinds.Measure.{Measure}
-use Rattle.sm_instance.specs.declared.kinds.Measure.TheVariants.{Ranks, Given}
+use Rattle.sm_agents.specs.declared.kinds.Measure.{Measure}
+use Rattle.sm_agents.specs.declared.kinds.Measure.TheVariants.{Ranks, Given}
 use Rattle.sm_theory.specs.FlowLines.{IsConserved}
 use Rattle.sm_seats.specs.Levels.{has_two_levels}
 use Rattle.sm_report.specs.Lines.{LineData}

@@ -7,8 +7,8 @@ use Rattle.std.proofs.lemmas.Bool.{false≢true, cases_lt}
 use Rattle.std.proofs.lemmas.List.{map-append, length_push, get_or_append_left, get_or_push, get_or_past, length-take-le}
 use Rattle.std.proofs.lemmas.Option.{none-some}
 use Rattle.sm_lists.specs.Rows.{row}
-use Rattle.sm_instance.specs.Written.{Written}
-use Rattle.sm_instance.specs.declared.kinds.Measure.{Measure}
+use Rattle.sm_agents.specs.Written.{Written}
+use Rattle.sm_agents.specs.declared.kinds.Measure.{Measure}
 use Rattle.sm_theory.specs.Net.{Net}
 use Rattle.sm_theory.specs.FlowLines.{IsConserved, IsNewEdge, amount_on, line_at}
 use Rattle.sm_theory.specs.declared.flow_lines.FlowLine.{FlowLine}

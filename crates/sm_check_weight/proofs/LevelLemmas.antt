@@ -2,8 +2,8 @@
 use Rattle.std.proofs.Common.{◌≡◌, ℕ, List, Option, None, Bool, true, false, refl, sym, ap, ◌∙◌, subst}
 use Rattle.std.specs.Prelude.{if◌then◌else◌}
 use Rattle.std.proofs.lemmas.Bool.{false≢true}
-use Rattle.sm_instance.specs.Written.{Written}
-use Rattle.sm_instance.specs.declared.kinds.Measure.{Measure}
+use Rattle.sm_agents.specs.Written.{Written}
+use Rattle.sm_agents.specs.declared.kinds.Measure.{Measure}
 use Rattle.sm_seats.specs.Levels.{has_two_levels}
 use Rattle.sm_report.specs.Lines.{LineData}
 use Rattle.sm_check_clauses.specs.declared.verdicts.Reason.{Reason}

@@ -1,6 +1,6 @@
 -- The moves of the rotations of a chain, on the tables of an instance.
 use Rattle.std.proofs.Common.{ℕ, ◌<◌, ◌^◌, arith, sym, ◌∙◌, List, length, ℤ}
-use Rattle.sm_instance.specs.Written.{Written}
+use Rattle.sm_agents.specs.Written.{Written}
 use Rattle.sm_theory.specs.Sizes.{AreWeights}
 use Rattle.sm_seats.specs.SeatMarket.{seat_market}
 use Rattle.sm_seats.proofs.MarketLaws.{length-proposers}

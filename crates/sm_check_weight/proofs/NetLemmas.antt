@@ -3,11 +3,11 @@ use Rattle.std.proofs.Common.{◌≡◌, ℕ, ◌+◌, ◌<◌, ◌^◌, ◌∙�
 use Rattle.std.proofs.lemmas.Bool.{cases_lt}
 use Rattle.std.proofs.lemmas.List.{length-map, get_or-map, get_or_past}
 use Rattle.sm_lists.specs.Rows.{row, rows_of}
-use Rattle.sm_instance.specs.Written.{Written, place_of}
-use Rattle.sm_instance.specs.Sound.{IsInstance, IsPairOf}
+use Rattle.sm_agents.specs.Written.{Written, place_of}
+use Rattle.sm_agents.specs.Sound.{IsInstance, IsPairOf}
 use Rattle.sm_lists.specs.Pairs.{pair_at}
-use Rattle.sm_instance.specs.declared.kinds.Measure.{Measure}
-use Rattle.sm_instance.proofs.ItemLemmas.{forced_in_range, forbidden_in_range}
+use Rattle.sm_agents.specs.declared.kinds.Measure.{Measure}
+use Rattle.sm_agents.proofs.ItemLemmas.{forced_in_range, forbidden_in_range}
 use Rattle.sm_market.specs.Limits.{IsWithinLimits}
 use Rattle.sm_market.specs.Matching.{Places}
 use Rattle.sm_market.proofs.PairingLemmas.{held_in_range}

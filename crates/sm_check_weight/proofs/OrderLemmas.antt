@@ -5,8 +5,8 @@ use Rattle.std.specs.List.{list_all, slice_get}
 use Rattle.std.proofs.lemmas.Bool.{false≢true}
 use Rattle.std.proofs.lemmas.List.{length_push}
 use Rattle.std.proofs.lemmas.Option.{none-some, slice_get-get_or}
-use Rattle.sm_instance.specs.Written.{Written}
-use Rattle.sm_instance.specs.declared.kinds.Measure.{Measure}
+use Rattle.sm_agents.specs.Written.{Written}
+use Rattle.sm_agents.specs.declared.kinds.Measure.{Measure}
 use Rattle.sm_theory.specs.Chains.{AreNeedsOf}
 use Rattle.sm_seats.specs.SeatMarket.{seat_market}
 use Rattle.sm_report.specs.Lines.{LineData}

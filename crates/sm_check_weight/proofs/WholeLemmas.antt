@@ -1,6 +1,6 @@
 -- A walk through all rotations, and the matchings of closed sets of them.
 use Rattle.std.proofs.Common.{◌≡◌, ℕ, ◌∙◌, ap, Bool, List, Option, sym, subst}
-use Rattle.sm_instance.specs.Written.{Written}
+use Rattle.sm_agents.specs.Written.{Written}
 use Rattle.sm_instance.specs.Matching.{IsMatching as IsWrittenMatching}
 use Rattle.sm_market.specs.Lists.{Lists}
 use Rattle.sm_market.specs.Matching.{Places}

@@ -1,8 +1,8 @@
 -- The clauses on what is claimed behind the rotations, over what is kept.
 use Rattle.std.specs.Prelude.{◌≡◌, ℕ, Bool, List, Option, ℤ}
-use Rattle.sm_instance.specs.Written.{Written}
+use Rattle.sm_agents.specs.Written.{Written}
 use Rattle.sm_instance.specs.Ranks.{weight_of, second_weight_of}
-use Rattle.sm_instance.specs.declared.kinds.Measure.{Measure}
+use Rattle.sm_agents.specs.declared.kinds.Measure.{Measure}
 use Rattle.sm_theory.specs.Net.{Net, cut_of}
 use Rattle.sm_theory.specs.Flows.{IsResidualReach}
 use Rattle.sm_theory.specs.FlowLines.{amount_on, amount_from}

@@ -1,7 +1,7 @@
 -- The order of the lines of an answer of `weight`, as far as judging them line by line stands on it.
 use Rattle.std.specs.Prelude.{◌≡◌, ℕ, ◌+◌, List, length, take, Some, true, false, IsSome}
 use Rattle.std.specs.List.{list_all, slice_get}
-use Rattle.sm_instance.specs.Written.{Written}
+use Rattle.sm_agents.specs.Written.{Written}
 use Rattle.sm_report.specs.Lines.{LineData}
 use Rattle.sm_check_clauses.specs.Said.{rotations_in, needs_in, all_needs_in, is_up_to_rotations}
 

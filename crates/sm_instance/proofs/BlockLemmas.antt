@@ -2,8 +2,8 @@
 use Rattle.std.proofs.Common.{◌≡◌, ℕ, ◌+◌, ◌<◌, ◌≤◌, ◌⊎◌, cond, Bool, true, false, List, Option, Some, None, MatchOption, IfSome, unwrap_or, length, refl, sym, ap, subst, ◌∙◌, arith, ⊎_elim, inl, inr}
 use Rattle.std.proofs.lemmas.Bool.{cases_lt}
 use Rattle.std.proofs.lemmas.Bool.Decides.{nat_tests}
-use Rattle.sm_instance.specs.Written.{Written, row, entry, place_of}
-use Rattle.sm_instance.specs.Sound.{IsInstance}
+use Rattle.sm_agents.specs.Written.{Written, row, entry, place_of}
+use Rattle.sm_agents.specs.Sound.{IsInstance}
 use Rattle.sm_instance.specs.Matching.{held, standing, IsAssignment, IsMatching}
 use Rattle.sm_instance.specs.Stable.{Blocks, IsStable, IsFirstBlocking, IsGainLimit}
 use Rattle.sm_lists.specs.CompactNamings.{naming_at}
@@ -11,7 +11,7 @@ use Rattle.sm_instance.specs.Crosses.{cross_place}
 use Rattle.sm_instance.specs.Namings.{AreAskedOf}
 use Rattle.sm_instance.specs.Loads.{IsFirstBlockingWith, IsFirstPairBelow, IsFirstBelow, is_sooner, sooner_of}
 use Rattle.sm_lists.specs.declared.compact_naming.CompactNaming.{CompactNaming}
-use Rattle.sm_instance.proofs.ListLemmas.{row_in_range}
+use Rattle.sm_agents.proofs.ListLemmas.{row_in_range}
 use Rattle.sm_instance.proofs.PlaceLemmas.{place_of-entry}
 use Rattle.sm_lists.proofs.PlaceLemmas.{get_or-place_on}
 use Rattle.sm_instance.proofs.AcceptLemmas.{cross_some, held_on}

@@ -2,8 +2,8 @@
 use Rattle.std.proofs.Common.{◌≡◌, ℕ, zero, suc, ◌+◌, ◌<◌, ◌≤◌, ◌⊎◌, List, Option, Some, None, MatchOption, length, min, max, refl, sym, ap, subst, ◌∙◌, arith, ⊎_elim, inl, inr}
 use Rattle.std.proofs.lemmas.Bool.{cases_lt}
 use Rattle.sm_text.specs.Limits.{most_agents}
-use Rattle.sm_instance.specs.Written.{Written, row, entry, place_of, capacity_of, IsAcceptable}
-use Rattle.sm_instance.specs.Sound.{IsInstance}
+use Rattle.sm_agents.specs.Written.{Written, row, entry, place_of, capacity_of, IsAcceptable}
+use Rattle.sm_agents.specs.Sound.{IsInstance}
 use Rattle.sm_instance.specs.Matching.{held, is_at, load_before, IsAssignment, IsMatching, IsBreach, IsFirstBreach}
 use Rattle.sm_lists.specs.CompactNamings.{naming_at}
 use Rattle.sm_instance.specs.Crosses.{cross_place}
@@ -12,7 +12,7 @@ use Rattle.sm_instance.proofs.NamingLemmas.{asked_there}
 use Rattle.sm_lists.specs.Earlier.{earlier_of}
 use Rattle.sm_instance.specs.Loads.{IsFirstOf, IsUnacceptable, IsOverfull, IsOverfullBelow, IsWorst}
 use Rattle.sm_lists.specs.declared.compact_naming.CompactNaming.{CompactNaming}
-use Rattle.sm_instance.proofs.ListLemmas.{row_in_range}
+use Rattle.sm_agents.proofs.ListLemmas.{row_in_range}
 use Rattle.sm_instance.proofs.AcceptLemmas.{cross_some}
 use Rattle.sm_instance.proofs.LoadLemmas.{load_before-suc_at, load_before-suc_other, load_before-suc, test_cases, place_at, at_place, IsCounted, IsWorstSoFar, load_next, counted_end, named_at}
 

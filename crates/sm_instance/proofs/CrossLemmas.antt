@@ -12,13 +12,13 @@ use Rattle.sm_lists.specs.Held.{held_in, AreShort}
 use Rattle.sm_lists.specs.Namings.{naming_at as naming_known, AreNamings as AreKnown, AreNamingsOf as AreKnownOf}
 use Rattle.sm_lists.specs.declared.naming.Naming.{Naming as Known}
 use Rattle.sm_text.specs.Limits.{most_agents, most_entries}
-use Rattle.sm_instance.specs.Written.{AgentData, no_agent, row, entry, lists_of}
-use Rattle.sm_instance.specs.Sound.{AreSoundEntries, entries_of}
+use Rattle.sm_agents.specs.Written.{AgentData, no_agent, row, entry, lists_of}
+use Rattle.sm_agents.specs.Sound.{AreSoundEntries, entries_of}
 use Rattle.sm_instance.specs.Crosses.{AreCrossPlaces, AreNamingsOf, AreNamings}
 use Rattle.sm_lists.specs.CompactNamings.{no_naming, naming_at}
 use Rattle.sm_lists.specs.declared.compact_naming.CompactNaming.{CompactNaming}
 use Rattle.sm_instance.proofs.PlaceLemmas.{length-row-le-others}
-use Rattle.sm_instance.proofs.ListLemmas.{row_in_range}
+use Rattle.sm_agents.proofs.ListLemmas.{row_in_range}
 
 -- an agent's list among all lists
 pub row-lists_of : (agents : List AgentData) (a : ℕ) → row_at (lists_of agents) a ≡ row agents a

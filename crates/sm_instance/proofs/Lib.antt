@@ -1,15 +1,10 @@
-pub mod ListLemmas
 pub mod PlaceLemmas
-pub mod AgentLemmas
 pub mod NamingLemmas
 pub mod CrossLemmas
 pub mod LoadLemmas
-pub mod ItemLemmas
-pub mod SecondLemmas
-pub mod NonzeroLemmas
-pub mod FaultLemmas
 pub mod AcceptLemmas
 pub mod BreachLemmas
 pub mod BlockLemmas
 pub mod RankLemmas
 pub mod WitnessLemmas
+pub mod KeptLemmas

@@ -4,8 +4,8 @@ use Rattle.std.proofs.lemmas.Bool.{eqb-true, eq-eqb, cases_lt}
 use Rattle.std.proofs.lemmas.List.FromFn.{map-range_with_len_more}
 use Rattle.std.proofs.lemmas.List.Sums.{fold-append}
 use Rattle.std.specs.List.{range_with_len}
-use Rattle.sm_instance.specs.Written.{Written, entry, place_of}
-use Rattle.sm_instance.specs.Sound.{AreSoundEntries}
+use Rattle.sm_agents.specs.Written.{Written, entry, place_of}
+use Rattle.sm_agents.specs.Sound.{AreSoundEntries}
 use Rattle.sm_instance.specs.Matching.{held, leads_to, is_at, load_before, load, IsAssignment}
 use Rattle.sm_instance.specs.Stable.{HasWorse}
 use Rattle.sm_lists.specs.CompactNamings.{naming_at, IsNamed}

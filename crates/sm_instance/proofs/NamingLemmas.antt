@@ -6,11 +6,11 @@ use Rattle.std.proofs.lemmas.List.FromFn.{get_or-map-range_with_len, length-map-
 use Rattle.sm_lists.specs.CompactNamings.{no_naming, naming_at, IsNamed}
 use Rattle.sm_lists.specs.declared.compact_naming.CompactNaming.{CompactNaming}
 use Rattle.sm_lists.proofs.PlaceLemmas.{get_or-place_on, place_on-le}
-use Rattle.sm_instance.specs.Written.{AgentData, row, entry, place_of}
-use Rattle.sm_instance.specs.Sound.{AreSoundEntries}
+use Rattle.sm_agents.specs.Written.{AgentData, row, entry, place_of}
+use Rattle.sm_agents.specs.Sound.{AreSoundEntries}
 use Rattle.sm_instance.specs.Crosses.{AreNamingsOf, cross_place}
 use Rattle.sm_instance.specs.Namings.{AreAskedOf, asked_at, all_asked}
-use Rattle.sm_instance.proofs.ListLemmas.{row_in_range}
+use Rattle.sm_agents.proofs.ListLemmas.{row_in_range}
 use Rattle.sm_instance.proofs.PlaceLemmas.{place_found, place_missing, place_of-entry}
 
 -- the place of whom b names

@@ -3,8 +3,8 @@ use Rattle.std.proofs.Common.{◌≡◌, ◌≢◌, ℕ, ◌<◌, ◌≤◌, Lis
 use Rattle.std.proofs.lemmas.Bool.Decides.{nat_tests}
 use Rattle.sm_lists.proofs.PlaceLemmas.{place_on-le-at, place_on_is, place_on-none, length-le-range}
 use Rattle.sm_text.specs.Limits.{most_agents}
-use Rattle.sm_instance.specs.Written.{AgentData, row, entry, place_of}
-use Rattle.sm_instance.specs.Sound.{AreSoundEntries}
+use Rattle.sm_agents.specs.Written.{AgentData, row, entry, place_of}
+use Rattle.sm_agents.specs.Sound.{AreSoundEntries}
 use Rattle.sm_instance.specs.Crosses.{cross_place}
 
 -- a list has no more entries than there are agents of the other side

@@ -5,10 +5,10 @@ use Rattle.std.proofs.lemmas.Bool.Decides.{nat_tests}
 use Rattle.std.proofs.lemmas.Option.{same_Some, none-some}
 use Rattle.std.specs.List.{All}
 use Rattle.sm_text.specs.Name as name
-use Rattle.sm_instance.specs.Written.{agent_at, row, entry, place_of, capacity_of, IsAcceptable}
+use Rattle.sm_agents.specs.Written.{agent_at, row, entry, place_of, capacity_of, IsAcceptable}
 use Rattle.sm_instance.specs.Matching.{held, is_at, load, IsMatching}
 use Rattle.sm_instance.specs.Stable.{HasWorse, Blocks}
-use Rattle.sm_instance.specs.Sound.{IsSoundAgent, IsSoundEntry}
+use Rattle.sm_agents.specs.Sound.{IsSoundAgent, IsSoundEntry}
 use Rattle.sm_lists.proofs.OrderLemmas.{apart_each_once}
 use Rattle.sm_instance.specs.Witnesses.{small_hospitals, settled, left_over, passed_over, persons, NobodyBlocks, FreePlaceBlocks, WorseResidentBlocks, NoMatchings, InertEntryCounts, SecondsCount, OrdersHaveEach, OwnName}
 

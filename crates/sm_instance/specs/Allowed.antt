@@ -1,7 +1,7 @@
 -- The conditions of an instance.
 use Rattle.std.specs.Prelude.{ℕ, List, Option, IsTrue}
 use Rattle.std.specs.List.{All}
-use Rattle.sm_instance.specs.Written.{Written}
+use Rattle.sm_agents.specs.Written.{Written}
 use Rattle.sm_instance.specs.Matching.{is_at, IsMatching}
 
 -- a matching that holds every forced pair and no forbidden pair (Gusfield and Irving 1989, section 2.2.2)

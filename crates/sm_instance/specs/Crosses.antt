@@ -3,8 +3,8 @@ use Rattle.std.specs.Prelude.{◌≡◌, ℕ, ◌<◌, List, [], Option, None, l
 use Rattle.sm_lists.specs.Crosses.{found_on}
 use Rattle.sm_lists.specs.CompactNamings.{naming_at, IsNamed}
 use Rattle.sm_lists.specs.declared.compact_naming.CompactNaming.{CompactNaming}
-use Rattle.sm_instance.specs.Written.{AgentData, Written, row, entry}
-use Rattle.sm_instance.specs.Sound.{IsInstance}
+use Rattle.sm_agents.specs.Written.{AgentData, Written, row, entry}
+use Rattle.sm_agents.specs.Sound.{IsInstance}
 use Rattle.sm_instance.specs.declared.crosses.Crosses.{Crosses}
 use Rattle.sm_instance.specs.declared.crosses.LentCrosses.{LentCrosses}
 use Rattle.sm_instance.specs.declared.crosses.LentCrosses.TheVariants.{Kept, Made}

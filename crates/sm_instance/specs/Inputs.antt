@@ -1,9 +1,9 @@
 -- What an `Input` is.
 use Rattle.std.specs.Prelude.{List}
-use Rattle.sm_instance.specs.Written.{AgentData}
-use Rattle.sm_instance.specs.Sound.{IsInstance, ArePersons}
-use Rattle.sm_instance.specs.declared.kinds.Kind.{Kind}
-use Rattle.sm_instance.specs.declared.kinds.Kind.TheVariants.{Roommates}
+use Rattle.sm_agents.specs.Written.{AgentData}
+use Rattle.sm_agents.specs.Sound.{IsInstance, ArePersons}
+use Rattle.sm_agents.specs.declared.kinds.Kind.{Kind}
+use Rattle.sm_agents.specs.declared.kinds.Kind.TheVariants.{Roommates}
 use Rattle.sm_instance.specs.declared.inputs.Input.{Input}
 use Rattle.sm_instance.specs.declared.inputs.Input.TheVariants.{Two, Room}
 

@@ -1,15 +1,11 @@
 -- What is kept beside an instance, so that the calls on it take no memory.
 use Rattle.std.specs.Prelude.{◌≡◌, ℕ, ◌+◌, ◌<◌, ◌^◌, List, length, map, Option, IfSome}
-use Rattle.sm_instance.specs.Written.{AgentData, Written, names_of, weighed}
-use Rattle.sm_instance.specs.Sound.{IsInstance, ArePersons}
-use Rattle.sm_instance.specs.declared.names.NameTables.{NameTables}
+use Rattle.sm_agents.specs.Written.{AgentData, Written, names_of, weighed}
+use Rattle.sm_agents.specs.Sound.{IsInstance, ArePersons}
+use Rattle.sm_agents.specs.declared.names.NameTables.{NameTables}
+use Rattle.sm_agents.specs.Names.{AreNamesOf}
 use Rattle.sm_instance.specs.declared.crosses.Crosses.{Crosses}
 use Rattle.sm_instance.specs.Crosses.{AreCrossesOf}
-
--- the names of both sides
-pub record AreNamesOf (proposers reviewers : List AgentData) (names : NameTables) : Type 0 where
-  pub lefts : names.proposers ≡ names_of proposers
-  pub rights : names.reviewers ≡ names_of reviewers
 
 -- what is kept beside an instance: the pairs with a weight; and on demand the cross places, with who names each reviewer, and the
 -- names of both sides

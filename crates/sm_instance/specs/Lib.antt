@@ -1,17 +1,11 @@
-pub mod Written
 pub mod Matching
 pub mod Stable
 pub mod Ranks
 pub mod Allowed
 pub mod Lightest
-pub mod Sound
-pub mod Faults
-pub mod Checks
-pub mod Vectors
 pub mod Crosses
 pub mod Kept
 pub mod Namings
 pub mod Inputs
-pub mod Named
 pub mod Loads
 pub mod Witnesses

@@ -1,11 +1,11 @@
 -- The lightest matching that the conditions of an instance allow.
 use Rattle.std.specs.Prelude.{◌≡◌, ℕ, ◌≤◌, ◌⊎◌, List, Option, ◌≤ℤ◌, ◌<ℤ◌}
-use Rattle.sm_instance.specs.Written.{Written}
+use Rattle.sm_agents.specs.Written.{Written}
 use Rattle.sm_instance.specs.Matching.{standing}
 use Rattle.sm_instance.specs.Stable.{IsStable}
 use Rattle.sm_instance.specs.Allowed.{IsAllowed}
 use Rattle.sm_instance.specs.Ranks.{weight_of, second_of}
-use Rattle.sm_instance.specs.declared.kinds.Measure.{Measure}
+use Rattle.sm_agents.specs.declared.kinds.Measure.{Measure}
 
 -- an allowed stable matching of the least weight, and of those that have it the one that is best for all proposers
 -- (Irving, Leather and Gusfield 1987; Gusfield and Irving 1989, section 3.6)

@@ -1,6 +1,6 @@
 -- What the search for a breach, or for a blocking pair, finds on the way.
 use Rattle.std.specs.Prelude.{◌≡◌, ℕ, ◌<◌, ◌≤◌, ◌||◌, ◌&&◌, ◌==◌, nat_lt, if◌then◌else◌, Bool, List, Option, Some, None}
-use Rattle.sm_instance.specs.Written.{Written, entry, place_of, capacity_of, IsAcceptable}
+use Rattle.sm_agents.specs.Written.{Written, entry, place_of, capacity_of, IsAcceptable}
 use Rattle.sm_instance.specs.Matching.{held, load_before}
 use Rattle.sm_instance.specs.Stable.{HasWorse, Blocks}
 use Rattle.sm_lists.specs.declared.compact_naming.CompactNaming.{CompactNaming}

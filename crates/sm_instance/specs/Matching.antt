@@ -1,7 +1,7 @@
 -- Assignments and matchings of an instance, as the place that each proposer holds on its written list.
 use Rattle.std.specs.Prelude.{◌≡◌, ℕ, ◌<◌, ◌≤◌, ◌==◌, ◌⊎◌, Bool, false, if◌then◌else◌, List, length, map, sum, slice_index_or, Option, Some, None, unwrap_or}
 use Rattle.std.specs.List.{range_with_len}
-use Rattle.sm_instance.specs.Written.{Written, row, entry, capacity_of, IsAcceptable}
+use Rattle.sm_agents.specs.Written.{Written, row, entry, capacity_of, IsAcceptable}
 
 -- the place that a proposer holds, if it is matched
 abbrev pub held : List (Option ℕ) → ℕ → Option ℕ

@@ -3,7 +3,7 @@ use Rattle.std.specs.Prelude.{◌≡◌, ℕ, ◌<◌, List, length, map}
 use Rattle.std.specs.List.{range_with_len}
 use Rattle.sm_lists.specs.CompactNamings.{naming_at, IsNamed}
 use Rattle.sm_lists.specs.declared.compact_naming.CompactNaming.{CompactNaming}
-use Rattle.sm_instance.specs.Written.{AgentData, row, entry, place_of}
+use Rattle.sm_agents.specs.Written.{AgentData, row, entry, place_of}
 use Rattle.sm_instance.specs.declared.namings.Namings.{Namings}
 use Rattle.sm_instance.specs.declared.namings.Namings.TheVariants.{Kept, Sought}
 

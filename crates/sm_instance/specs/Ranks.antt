@@ -1,13 +1,14 @@
 -- Rank vectors and their order, and what a matching is worth: its regret and its weight. Ranks are written places counted
 -- from 1.
-use Rattle.std.specs.Prelude.{◌≢◌, ℕ, zero, suc, ◌+◌, ◌<◌, slice_index_or, max, Bool, true, false, List, length, map, fold, Option, Some, None, ℤ, pos, negsuc, ◌+ℤ◌}
+use Rattle.std.specs.Prelude.{ℕ, zero, ◌+◌, max, List, length, map, fold, Option, Some, None, ℤ, pos, ◌+ℤ◌}
 use Rattle.std.specs.List.{range_with_len}
 -- the order of rank vectors, in which the proposers are compared in a given order
 pub use Rattle.sm_lists.specs.Orders.{IsBefore}
-use Rattle.sm_instance.specs.Written.{Written, entry, place_of, given_weight, second_weight}
+use Rattle.sm_agents.specs.Written.{Written, entry, place_of, given_weight, second_weight}
+use Rattle.sm_agents.specs.Nonzero.{HasNonzero}
 use Rattle.sm_instance.specs.Matching.{held, standing}
-use Rattle.sm_instance.specs.declared.kinds.Measure.{Measure}
-use Rattle.sm_instance.specs.declared.kinds.Measure.TheVariants.{Ranks, Given}
+use Rattle.sm_agents.specs.declared.kinds.Measure.{Measure}
+use Rattle.sm_agents.specs.declared.kinds.Measure.TheVariants.{Ranks, Given}
 
 -- the order of the proposers in which vectors are compared
 abbrev pub order_of : Written → List ℕ
@@ -40,18 +41,6 @@ pair_weight Given w p (Some i) = given_weight w p (entry w.proposers p i)
 -- the sum over the matched pairs, of the given weights or of both ranks (Gusfield and Irving 1989, section 3.6)
 abbrev pub weight_of : Measure → Written → List (Option ℕ) → ℤ
 weight_of by w places = fold ◌+ℤ◌ (pos 0) (map (λ p. pair_weight by w p (held places p)) (range_with_len 0 (length w.proposers)))
-
--- a number is 0
-abbrev pub is_zero : ℤ → Bool
-is_zero (pos zero) = true
-is_zero (pos (suc n)) = false
-is_zero (negsuc n) = false
-
--- one of these numbers isn't 0
-pub record HasNonzero (numbers : List ℤ) : Type 0 where
-  pub at : ℕ
-  pub there : at < length numbers
-  pub isnt : slice_index_or numbers at (pos 0) ≢ pos 0
 
 -- a pair has a second weight that isn't 0
 abbrev pub HasSeconds : Written → Type 0

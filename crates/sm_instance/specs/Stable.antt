@@ -1,9 +1,9 @@
 -- Blocking pairs, stable matchings, and the best of these for each side.
 use Rattle.std.specs.Prelude.{◌≡◌, ℕ, ◌<◌, ◌≤◌, ◌⊎◌, List, Option, Some, length}
-use Rattle.sm_instance.specs.Written.{Written, entry, place_of, capacity_of, IsAcceptable, row}
+use Rattle.sm_agents.specs.Written.{Written, entry, place_of, capacity_of, IsAcceptable, row}
 use Rattle.sm_instance.specs.Matching.{held, standing, load, IsMatching}
-use Rattle.sm_instance.specs.declared.kinds.Side.{Side}
-use Rattle.sm_instance.specs.declared.kinds.Side.TheVariants.{Proposers, Reviewers}
+use Rattle.sm_agents.specs.declared.kinds.Side.{Side}
+use Rattle.sm_agents.specs.declared.kinds.Side.TheVariants.{Proposers, Reviewers}
 
 -- r has a proposer that it likes less than p
 pub record HasWorse (w : Written) (places : List (Option ℕ)) (r p : ℕ) : Type 0 where

@@ -1,14 +1,14 @@
 -- Small instances whose matchings are known by hand, so that the definitions mean what they should.
 use Rattle.std.specs.Prelude.{◌≡◌, ℕ, List, [], ◌∷◌, Option, Some, None, pos, negsuc}
-use Rattle.sm_instance.specs.Written.{AgentData, Written, plain_written}
+use Rattle.sm_agents.specs.Written.{AgentData, Written, plain_written}
 use Rattle.sm_instance.specs.Matching.{load, IsMatching}
 use Rattle.sm_instance.specs.Stable.{Blocks, IsStable}
 use Rattle.sm_instance.specs.Ranks.{rank_vector_of, regret_of, weight_of, second_weight_of}
 use Rattle.sm_instance.specs.Allowed.{IsAllowed}
-use Rattle.sm_instance.specs.Sound.{ArePersons}
+use Rattle.sm_agents.specs.Sound.{ArePersons}
 use Rattle.sm_lists.specs.EachOnce.{IsEachOnce}
-use Rattle.sm_instance.specs.declared.kinds.Kind.TheVariants.{Marriage, Hospitals}
-use Rattle.sm_instance.specs.declared.kinds.Measure.TheVariants.{Ranks, Given}
+use Rattle.sm_agents.specs.declared.kinds.Kind.TheVariants.{Marriage, Hospitals}
+use Rattle.sm_agents.specs.declared.kinds.Measure.TheVariants.{Ranks, Given}
 
 -- an agent whose name is this one byte
 abbrev pub agent : ℕ → ℕ → List ℕ → AgentData

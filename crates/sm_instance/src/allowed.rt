@@ -5,8 +5,8 @@ ghost use Rattle.std.specs.List.{All};
 ghost use Rattle.sm_instance.specs.Matching.{is_at, IsMatching};
 ghost use Rattle.sm_instance.specs.Allowed.{IsAllowed};
 
-use crate::agents::Assignment;
 use crate::instance::Instance;
+use sm_agents::Assignment;
 
 impl Instance {
     /// Whether a matching holds every forced pair and no forbidden pair.

@@ -1,13 +1,13 @@
 //! Which pairs block a matching.
 
 ghost use Rattle.std.specs.Prelude.{◌≡◌, ℕ, ◌<◌, ◌↔◌, length, IsTrue, MatchOption};
-ghost use Rattle.sm_instance.specs.Written.{row, entry};
+ghost use Rattle.sm_agents.specs.Written.{row, entry};
 ghost use Rattle.sm_instance.specs.Matching.{IsMatching};
 ghost use Rattle.sm_instance.specs.Stable.{Blocks, IsStable, IsFirstBlocking, IsGainLimit};
 ghost use Rattle.sm_instance.specs.Loads.{IsFirstBlockingWith, sooner_of};
 
-use crate::agents::Assignment;
 use crate::instance::Instance;
+use sm_agents::Assignment;
 use sm_lists::CompactNaming;
 
 impl Instance {

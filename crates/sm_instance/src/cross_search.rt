@@ -2,12 +2,12 @@
 
 ghost use Rattle.std.specs.Prelude.{◌≡◌, ◌<◌, length, IfOk, IfSome};
 ghost use Rattle.sm_text.specs.Limits.{most_agents};
-ghost use Rattle.sm_instance.specs.Written.{row, entry};
+ghost use Rattle.sm_agents.specs.Written.{row, entry};
 ghost use Rattle.sm_instance.specs.Crosses.{cross_place};
 
-use crate::agents::count_entries;
 use crate::crosses::LentCrosses;
 use crate::instance::Instance;
+use sm_agents::count_entries;
 use sm_lists::first_place;
 use std::alloc::{AllocError, Global};
 use std::marker::Model;
@@ -22,7 +22,7 @@ pub struct CrossSearch<'a> {
 }
 
 impl<'a> Model for CrossSearch<'a> {
-    ghost use Rattle.sm_instance.specs.Written.{Written};
+    ghost use Rattle.sm_agents.specs.Written.{Written};
     ghost use Rattle.sm_instance.specs.Crosses.{IsCrossSearch};
 
     ghost Value = { Written };

@@ -2,12 +2,12 @@
 
 ghost use Rattle.std.specs.Prelude.{◌≡◌, ◌<◌, [], length, slice_index_or, IfOk};
 ghost use Rattle.sm_lists.specs.Rows.{lists_in};
-ghost use Rattle.sm_instance.specs.Sound.{IsWithinLimits, AreSoundEntries};
-ghost use Rattle.sm_instance.specs.Written.{lists_of};
+ghost use Rattle.sm_agents.specs.Sound.{IsWithinLimits, AreSoundEntries};
+ghost use Rattle.sm_agents.specs.Written.{lists_of};
 ghost use Rattle.sm_instance.specs.Crosses.{AreCrossesOf, crosses_lent};
-ghost use Rattle.sm_instance.specs.Vectors.{agents_of};
+ghost use Rattle.sm_agents.specs.Vectors.{agents_of};
 
-use crate::agents::Agent;
+use sm_agents::Agent;
 use sm_lists::{CompactNaming, Cross, CrossPlaces, Packed, cross_places, namings};
 use std::alloc::{AllocError, Global};
 

@@ -1,9 +1,8 @@
 //! What is read: an instance of any kind.
 
-use crate::agents::name_at;
 use crate::instance::Instance;
-use crate::kinds::Kind;
 use crate::persons::Persons;
+use sm_agents::{Kind, name_at};
 use std::alloc::AllocError;
 
 /// An instance with two sides, or one of roommates.
@@ -16,7 +15,7 @@ pub enum Input {
 impl Input {
     ghost use Rattle.std.specs.Prelude.{◌≡◌, ◌<◌, length, position, IfSome};
     ghost use Rattle.std.specs.Str.{bytes_eq};
-    ghost use Rattle.sm_instance.specs.Written.{agent_at, names_of};
+    ghost use Rattle.sm_agents.specs.Written.{agent_at, names_of};
     ghost use Rattle.sm_instance.specs.Inputs.{IsInput, kind_of, left_of, right_of};
 
     /// The kind.

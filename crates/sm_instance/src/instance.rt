@@ -4,25 +4,22 @@ ghost use Rattle.std.specs.Prelude.{◌≡◌, ◌≢◌, ℕ, ◌+◌, ◌<◌,
 ghost use Rattle.std.specs.Str.{bytes_eq};
 ghost use Rattle.std.specs.Int.RustNames.{unsigned_abs};
 ghost use Rattle.sm_text.specs.Limits.{most_agents, most_capacity, most_weight};
-ghost use Rattle.sm_instance.specs.Written.{row, entry, names_of, capacity_of, IsAcceptable, given_weight, second_weight, seconds_among, weighed as weighed_pair};
-ghost use Rattle.sm_instance.specs.Vectors.{agents_of, written_from, written_in};
+ghost use Rattle.sm_agents.specs.Written.{row, entry, names_of, capacity_of, IsAcceptable, given_weight, second_weight, seconds_among, weighed as weighed_pair};
+ghost use Rattle.sm_agents.specs.Vectors.{agents_of, written_from, written_in};
 ghost use Rattle.sm_instance.specs.Ranks.{HasSeconds};
-ghost use Rattle.sm_instance.specs.Sound.{IsInstance};
+ghost use Rattle.sm_agents.specs.Sound.{IsInstance};
 ghost use Rattle.sm_lists.specs.EachOnce.{IsEachOnce};
 ghost use Rattle.sm_instance.specs.Crosses.{cross_place, AreCrossesOf, crosses_lent};
 ghost use Rattle.sm_instance.specs.Namings.{AreAskedOf, asked};
-ghost use Rattle.sm_instance.specs.Kept.{AreNamesOf, IsKept};
+ghost use Rattle.sm_agents.specs.Names.{AreNamesOf};
+ghost use Rattle.sm_instance.specs.Kept.{IsKept};
 
-use crate::agents::{Agent, capacity_at, list_at};
-use crate::checks::{are_within_limits, checked};
 use crate::crosses::{Crosses, LentCrosses, find_crosses};
-use crate::faults::InstanceFault;
-use crate::kinds::Kind;
-use crate::names::{NameTables, find_named, name_tables};
 use crate::namings::Namings;
-use crate::pairs::Pairs;
-use crate::parts::Parts;
-use crate::seconds::{checked_seconds, has_nonzero, set_seconds};
+use sm_agents::{
+    Agent, InstanceFault, Kind, NameTables, Pairs, Parts, are_within_limits, capacity_at, checked,
+    checked_seconds, find_named, has_nonzero, list_at, name_tables, set_seconds,
+};
 use sm_lists::{first_place, is_each_once, place_by};
 use sm_text::TextHash;
 use std::alloc::{AllocError, Global};
@@ -52,8 +49,8 @@ pub struct Instance {
 }
 
 impl Model for Instance {
-    ghost use Rattle.sm_instance.specs.Written.{Written};
-    ghost use Rattle.sm_instance.specs.Vectors.{written_with};
+    ghost use Rattle.sm_agents.specs.Written.{Written};
+    ghost use Rattle.sm_agents.specs.Vectors.{written_with};
     ghost use Rattle.sm_instance.specs.Kept.{IsKept};
 
     ghost Value = { Written };
@@ -68,7 +65,7 @@ impl Model for Instance {
 }
 
 impl Instance {
-    ghost use Rattle.sm_instance.specs.Faults.{IsInstanceFault, IsOrderFault, IsSecondFault, IsSoundSecond};
+    ghost use Rattle.sm_agents.specs.Faults.{IsInstanceFault, IsOrderFault, IsSecondFault, IsSoundSecond};
 
     /// Makes an instance, or names the first thing that stands in the way.
     ///

@@ -10,33 +10,22 @@
 //! makes them, only [`Instance::reorder`] and [`Instance::add_seconds`] take memory.
 #![tactic(auto)]
 
-mod agents;
 mod allowed;
 mod blocking;
-mod checks;
 mod cross_search;
 mod crosses;
-mod faults;
 mod inputs;
 mod instance;
-mod kinds;
 mod matching;
-mod names;
 mod namings;
-mod pairs;
-mod parts;
 mod persons;
 mod ranks;
-mod seconds;
 pub mod witnesses;
 
-pub use agents::{Agent, Assignment};
 pub use cross_search::CrossSearch;
 pub use crosses::{Crosses, LentCrosses};
-pub use faults::InstanceFault;
 pub use inputs::Input;
 pub use instance::Instance;
-pub use kinds::{Kind, Measure, Side};
-pub use parts::Parts;
 pub use persons::Persons;
+pub use sm_agents::{Agent, Assignment, InstanceFault, Kind, Measure, Parts, Side};
 pub use sm_lists::Cross;

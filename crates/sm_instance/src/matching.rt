@@ -2,14 +2,14 @@
 
 ghost use Rattle.std.specs.Prelude.{◌≡◌, ◌<◌, ◌↔◌, length, Some, IsTrue, MatchOption, IfSome, ◌≤◌};
 ghost use Rattle.sm_text.specs.Limits.{most_agents};
-ghost use Rattle.sm_instance.specs.Written.{row};
+ghost use Rattle.sm_agents.specs.Written.{row};
 ghost use Rattle.sm_instance.specs.Matching.{held, standing, load, IsAssignment, IsMatching, IsFirstBreach};
-ghost use Rattle.sm_instance.specs.Sound.{IsInstance};
+ghost use Rattle.sm_agents.specs.Sound.{IsInstance};
 ghost use Rattle.sm_instance.specs.Loads.{IsFirstOf, IsUnacceptable, IsOverfull, IsWorst};
 ghost use Rattle.sm_instance.specs.Stable.{IsGainLimit};
 
-use crate::agents::Assignment;
 use crate::instance::Instance;
+use sm_agents::Assignment;
 use sm_lists::{CompactNaming, earlier};
 
 /// Does a proposer hold the place at which it names a reviewer?

@@ -2,15 +2,13 @@
 
 ghost use Rattle.std.specs.Prelude.{◌≡◌, ◌<◌, length, position, IfSome, IfOk, IfErr, OnOk};
 ghost use Rattle.std.specs.Str.{bytes_eq};
-ghost use Rattle.sm_instance.specs.Written.{names_of};
-ghost use Rattle.sm_instance.specs.Vectors.{agents_of};
-ghost use Rattle.sm_instance.specs.Sound.{ArePersons};
+ghost use Rattle.sm_agents.specs.Written.{names_of};
+ghost use Rattle.sm_agents.specs.Vectors.{agents_of};
+ghost use Rattle.sm_agents.specs.Sound.{ArePersons};
 
-use crate::agents::Agent;
-use crate::checks::{are_within_limits, check_entries, checked_names};
-use crate::faults::InstanceFault;
-use crate::kinds::{Kind, Side};
-use crate::names::names_for;
+use sm_agents::{
+    Agent, InstanceFault, Kind, Side, are_within_limits, check_entries, checked_names, names_for,
+};
 use sm_names::Names;
 use sm_text::TextHash;
 use std::alloc::{AllocError, Global};
@@ -25,8 +23,8 @@ pub struct Persons {
 
 impl Model for Persons {
     ghost use Rattle.std.specs.Prelude.{List};
-    ghost use Rattle.sm_instance.specs.Written.{AgentData};
-    ghost use Rattle.sm_instance.specs.Vectors.{agents_of};
+    ghost use Rattle.sm_agents.specs.Written.{AgentData};
+    ghost use Rattle.sm_agents.specs.Vectors.{agents_of};
     ghost use Rattle.sm_instance.specs.Kept.{ArePersonsKept};
 
     ghost Value = { List AgentData };
@@ -37,7 +35,7 @@ impl Model for Persons {
 }
 
 impl Persons {
-    ghost use Rattle.sm_instance.specs.Faults.{IsPersonsFault};
+    ghost use Rattle.sm_agents.specs.Faults.{IsPersonsFault};
 
     /// Makes an instance of roommates, or names the first thing that stands in the way.
     ///

@@ -3,13 +3,12 @@
 ghost use Rattle.std.specs.Prelude.{◌≡◌, ◌<◌, ◌≤◌, length, Some};
 ghost use Rattle.std.specs.Int.RustNames.{unsigned_abs};
 ghost use Rattle.sm_text.specs.Limits.{most_agents, most_weight};
-ghost use Rattle.sm_instance.specs.Written.{row, entry, IsAcceptable};
+ghost use Rattle.sm_agents.specs.Written.{row, entry, IsAcceptable};
 ghost use Rattle.sm_instance.specs.Matching.{IsMatching};
 ghost use Rattle.sm_instance.specs.Ranks.{rank_vector_of, rank_back, worse_rank, regret_of, pair_weight, weight_of, second_weight_of};
 
-use crate::agents::Assignment;
 use crate::instance::Instance;
-use crate::kinds::Measure;
+use sm_agents::{Assignment, Measure};
 
 impl Instance {
     /// Writes for each proposer the rank of its partner, or one more than the length of its list where it is unmatched.

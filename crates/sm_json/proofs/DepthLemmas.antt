@@ -5,13 +5,13 @@ use Rattle.serde_json.specs.Data.{Data, number, string, Members, no_members, mem
 use Rattle.serde_json.specs.Find.{is_float, of_integer}
 use Rattle.serde_json.specs.View.{items_of}
 use Rattle.serde_json.specs.Written.{has_float, items_have_float, members_have_float}
-use Rattle.sm_instance.specs.Named.{SaidAgent, SaidPair, SaidWeight, SaidOrder, Said}
+use Rattle.sm_agents.specs.Named.{SaidAgent, SaidPair, SaidWeight, SaidOrder, Said}
 use Rattle.sm_instance.specs.Inputs.{kind_of}
 use Rattle.sm_instance.specs.declared.inputs.Input.{Input}
-use Rattle.sm_instance.specs.declared.kinds.Kind.{Kind}
-use Rattle.sm_instance.specs.declared.kinds.Kind.TheVariants.{Marriage, Hospitals, Roommates}
+use Rattle.sm_agents.specs.declared.kinds.Kind.{Kind}
+use Rattle.sm_agents.specs.declared.kinds.Kind.TheVariants.{Marriage, Hospitals, Roommates}
 use Rattle.sm_printed.specs.Names.{said_of}
-use Rattle.sm_instance.specs.Ranks.{is_zero}
+use Rattle.sm_agents.specs.Nonzero.{is_zero}
 use Rattle.sm_json.specs.Parts.{has_capacities}
 use Rattle.sm_json.specs.Making.{array_of, agent_json, pair_json, second_json, weight_json, order_json, with_order, kind_name, unless_empty, two_json, said_json, json_of}
 

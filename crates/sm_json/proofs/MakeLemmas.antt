@@ -17,15 +17,15 @@ use Rattle.serde_json.specs.Find.{of_integer}
 use Rattle.serde_json.specs.View.{view, items_of}
 use Rattle.serde_json.specs.declared.value.Value.{Value, Array}
 use Rattle.serde_json.proofs.Views.{view-Array}
-use Rattle.sm_instance.specs.Written.{AgentData, Written, no_agent, agent_at, weighed}
-use Rattle.sm_instance.specs.Vectors.{agent_of, agents_of}
-use Rattle.sm_instance.specs.declared.agents.Agent.{Agent}
-use Rattle.sm_instance.specs.Sound.{IsInstance, AreSoundAgents, AreSoundEntries, IsPairOf}
-use Rattle.sm_instance.specs.Named.{SaidPair, SaidWeight, SaidOrder}
-use Rattle.sm_instance.specs.declared.kinds.Kind.{Kind}
+use Rattle.sm_agents.specs.Written.{AgentData, Written, no_agent, agent_at, weighed}
+use Rattle.sm_agents.specs.Vectors.{agent_of, agents_of}
+use Rattle.sm_agents.specs.declared.agents.Agent.{Agent}
+use Rattle.sm_agents.specs.Sound.{IsInstance, AreSoundAgents, AreSoundEntries, IsPairOf}
+use Rattle.sm_agents.specs.Named.{SaidPair, SaidWeight, SaidOrder}
+use Rattle.sm_agents.specs.declared.kinds.Kind.{Kind}
 use Rattle.sm_json.specs.Parts.{has_capacities}
-use Rattle.sm_instance.specs.Ranks.{is_zero}
-use Rattle.sm_instance.proofs.NonzeroLemmas.{zero_is}
+use Rattle.sm_agents.specs.Nonzero.{is_zero}
+use Rattle.sm_agents.proofs.NonzeroLemmas.{zero_is}
 use Rattle.sm_printed.proofs.ItemLemmas.{weight_there, force_there, forbid_there}
 use Rattle.sm_instance.specs.declared.inputs.Input.TheVariants.{Two}
 use Rattle.sm_printed.specs.Names.{name_of, said_agent, said_pair, said_weight, said_of}

@@ -6,7 +6,7 @@ use Rattle.std.specs.Fmt.{signed_decimal}
 use Rattle.serde_json.specs.Data.{Data}
 use Rattle.serde_json.specs.Find.{get}
 use Rattle.sm_text.specs.Lines.{LF}
-use Rattle.sm_instance.specs.Named.{SaidPair}
+use Rattle.sm_agents.specs.Named.{SaidPair}
 use Rattle.sm_report.specs.Fields.{spaced}
 use Rattle.sm_printed.specs.Printed.{pair_text}
 use Rattle.sm_json.specs.declared.agents.Role.{Role}

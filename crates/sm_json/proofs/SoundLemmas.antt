@@ -8,15 +8,15 @@ use Rattle.std.proofs.lemmas.Slice.Zip.{length-zip, get_or-zip}
 use Rattle.std.proofs.lemmas.List.Elements.{All-nil, All-map}
 use Rattle.sm_text.specs.Limits.{most_weight}
 use Rattle.sm_text.specs.Name.{is_name}
-use Rattle.sm_instance.specs.Written.{AgentData, Written, no_agent, agent_at, row}
-use Rattle.sm_instance.specs.Sound.{IsInstance, AreSoundAgents, AreSoundEntries, is_single}
+use Rattle.sm_agents.specs.Written.{AgentData, Written, no_agent, agent_at, row}
+use Rattle.sm_agents.specs.Sound.{IsInstance, AreSoundAgents, AreSoundEntries, is_single}
 use Rattle.sm_instance.specs.Inputs.{IsInput}
-use Rattle.sm_instance.specs.Named.{SaidOrder, names_first}
-use Rattle.sm_instance.specs.declared.kinds.Kind.{Kind}
-use Rattle.sm_instance.specs.declared.kinds.Kind.TheVariants.{Marriage, Hospitals, Roommates}
+use Rattle.sm_agents.specs.Named.{SaidOrder, names_first}
+use Rattle.sm_agents.specs.declared.kinds.Kind.{Kind}
+use Rattle.sm_agents.specs.declared.kinds.Kind.TheVariants.{Marriage, Hospitals, Roommates}
 use Rattle.sm_instance.specs.declared.inputs.Input.{Input}
 use Rattle.sm_instance.specs.declared.inputs.Input.TheVariants.{Two, Room}
-use Rattle.sm_instance.proofs.ItemLemmas.{length-items}
+use Rattle.sm_agents.proofs.ItemLemmas.{length-items}
 use Rattle.sm_answer.specs.Writing.{text_of}
 use Rattle.sm_printed.specs.Names.{name_of, said_agent, said_pair, said_weight, said_order, said_of}
 use Rattle.sm_printed.specs.Printed.{lines_of}

@@ -4,7 +4,7 @@ use Rattle.std.specs.Fmt.{signed_decimal}
 use Rattle.std.specs.Str.{is_utf8}
 use Rattle.serde_json.specs.Data.{Data}
 use Rattle.serde_json.specs.Read.{read}
-use Rattle.sm_instance.specs.declared.kinds.Kind.{Kind}
+use Rattle.sm_agents.specs.declared.kinds.Kind.{Kind}
 use Rattle.sm_report.specs.Fields.{spaced}
 use Rattle.sm_answer.specs.Writing.{text_of}
 use Rattle.sm_printed.specs.Printed.{header_line, proposer_line, reviewer_line, pair_text, force_line, forbid_line}

@@ -1,17 +1,17 @@
 -- The JSON value of an instance. Members stand in the order of their names.
 use Rattle.std.specs.Prelude.{◌≡◌, ℕ, ◌<◌, ℤ, Bool, true, false, if◌then◌else◌, List, [], ◌∷◌, Option, Some, None, map, codes, length, slice_index}
 use Rattle.sm_text.specs.Name.{is_name}
-use Rattle.sm_instance.specs.Written.{AgentData, row}
+use Rattle.sm_agents.specs.Written.{AgentData, row}
 use Rattle.serde_json.specs.Data.{Data, number, string, array, object, unsigned, Members, no_members, member, put}
 use Rattle.serde_json.specs.Find.{of_integer}
 use Rattle.serde_json.specs.View.{items_of}
 use Rattle.sm_instance.specs.Inputs.{kind_of}
-use Rattle.sm_instance.specs.Named.{SaidAgent, SaidPair, SaidWeight, SaidOrder, Said}
+use Rattle.sm_agents.specs.Named.{SaidAgent, SaidPair, SaidWeight, SaidOrder, Said}
 use Rattle.sm_instance.specs.declared.inputs.Input.{Input}
-use Rattle.sm_instance.specs.declared.kinds.Kind.{Kind}
-use Rattle.sm_instance.specs.declared.kinds.Kind.TheVariants.{Marriage, Hospitals, Roommates}
+use Rattle.sm_agents.specs.declared.kinds.Kind.{Kind}
+use Rattle.sm_agents.specs.declared.kinds.Kind.TheVariants.{Marriage, Hospitals, Roommates}
 use Rattle.sm_printed.specs.Names.{name_of, said_agent, said_pair, said_weight, said_of}
-use Rattle.sm_instance.specs.Ranks.{is_zero}
+use Rattle.sm_agents.specs.Nonzero.{is_zero}
 use Rattle.sm_json.specs.Parts.{has_capacities}
 
 -- an array of what some items give

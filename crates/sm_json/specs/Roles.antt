@@ -3,8 +3,8 @@ use Rattle.std.specs.Prelude.{ℕ, Bool, true, false, List, [], ◌∷◌, ◌++
 use Rattle.std.specs.Fmt.{signed_decimal}
 use Rattle.std.specs.List.{flat_map}
 use Rattle.sm_text.specs.Lines.{LF}
-use Rattle.sm_instance.specs.Named.{SaidAgent}
-use Rattle.sm_instance.specs.declared.kinds.Kind.TheVariants.{Marriage, Hospitals}
+use Rattle.sm_agents.specs.Named.{SaidAgent}
+use Rattle.sm_agents.specs.declared.kinds.Kind.TheVariants.{Marriage, Hospitals}
 use Rattle.sm_report.specs.Fields.{spaced}
 use Rattle.sm_printed.specs.Printed.{capacity_text, proposer_line, reviewer_line, pair_text}
 use Rattle.serde_json.specs.Data.{Data}

@@ -3,7 +3,7 @@ use Rattle.std.specs.Prelude.{◌≡◌, ◌≤◌, Bool, true, false, All}
 use Rattle.std.specs.Int.RustNames.{unsigned_abs}
 use Rattle.sm_text.specs.Limits.{most_capacity, most_weight}
 use Rattle.sm_text.specs.Name.{is_name}
-use Rattle.sm_instance.specs.Named.{SaidAgent, SaidPair, SaidWeight, Said, names_first}
+use Rattle.sm_agents.specs.Named.{SaidAgent, SaidPair, SaidWeight, Said, names_first}
 
 -- an agent of a name, who lists names, and has one place or a capacity
 pub record IsSaidAgent (has_capacity : Bool) (agent : SaidAgent) : Type 0 where

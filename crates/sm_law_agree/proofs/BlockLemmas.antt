@@ -2,7 +2,7 @@
 use Rattle.std.proofs.Common.{◌≡◌, ℕ, zero, suc, ◌+◌, ◌-◌, ◌<◌, ◌==◌, arith, refl, sym, ap, ◌∙◌, eq-eqb, Bool, true, false, List, [], ◌∷◌, ◌++◌, length, map, Option, None, Some, if◌then◌else◌, subst, append-nil, append_assoc}
 use Rattle.std.specs.List.{flat_map, range_with_len, list_all, list_any, cons_option}
 use Rattle.std.proofs.lemmas.Bool.{false≢true}
-use Rattle.sm_instance.specs.declared.kinds.Side.TheVariants.{Proposers}
+use Rattle.sm_agents.specs.declared.kinds.Side.TheVariants.{Proposers}
 use Rattle.sm_market.specs.Lists.{row}
 use Rattle.sm_market.specs.Matching.{Places}
 use Rattle.sm_report.specs.Heads.{HeadData}

@@ -1,9 +1,9 @@
 -- The right answers of `meet` and of `join` get a yes.
 use Rattle.std.proofs.Common.{◌≡◌, ℕ, ◌&&◌, refl, sym, ap, ◌∙◌, Bool, true, List, [], ◌∷◌, ◌++◌, length, map, Option, subst}
 use Rattle.std.specs.List.{list_all}
-use Rattle.sm_instance.specs.Written.{Written, entry}
+use Rattle.sm_agents.specs.Written.{Written, entry}
 use Rattle.sm_instance.specs.Matching.{IsAssignment}
-use Rattle.sm_instance.specs.Sound.{IsInstance}
+use Rattle.sm_agents.specs.Sound.{IsInstance}
 use Rattle.sm_instance.specs.Stable.{IsStable}
 use Rattle.sm_instance.specs.declared.inputs.Input.TheVariants.{Two}
 use Rattle.sm_theory.specs.declared.choice.Choice.{Choice}

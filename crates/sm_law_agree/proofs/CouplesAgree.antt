@@ -10,7 +10,7 @@ use Rattle.std.proofs.lemmas.List.Elements.{filter_map-append}
 use Rattle.std.proofs.lemmas.List.FromFn.{length-map-range_with_len, get_or-map-range_with_len}
 use Rattle.std.proofs.lemmas.Option.{same_Some}
 use Rattle.sm_lists.proofs.Counting.{eq_or_ne}
-use Rattle.sm_instance.specs.Written.{AgentData, lists_of}
+use Rattle.sm_agents.specs.Written.{AgentData, lists_of}
 use Rattle.sm_instance.specs.declared.inputs.Input.TheVariants.{Room}
 use Rattle.sm_theory.specs.Rooms.{mate_of, IsRoomMatching, IsRoomStable}
 use Rattle.sm_report.specs.Heads.{HeadData}

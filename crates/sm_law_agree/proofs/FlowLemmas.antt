@@ -10,8 +10,8 @@ use Rattle.std.proofs.lemmas.List.Folds.{list_any-append}
 use Rattle.std.proofs.lemmas.List.FromFn.{length-map-range_with_len, get_or-map-range_with_len}
 use Rattle.std.proofs.lemmas.List.Sums.{sum_by-append, sum_by-cons}
 use Rattle.sm_lists.proofs.Counting.{eq_or_ne}
-use Rattle.sm_instance.specs.Written.{Written}
-use Rattle.sm_instance.specs.declared.kinds.Measure.{Measure}
+use Rattle.sm_agents.specs.Written.{Written}
+use Rattle.sm_agents.specs.declared.kinds.Measure.{Measure}
 use Rattle.sm_market.specs.Matching.{Places}
 use Rattle.sm_theory.specs.ClosedSets.{is_member}
 use Rattle.sm_theory.specs.Net.{Net, sink_of, room_of, is_unbounded, IsUnbounded, HasEdge}

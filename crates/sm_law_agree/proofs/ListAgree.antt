@@ -5,7 +5,7 @@ use Rattle.std.specs.List.{list_all, All}
 use Rattle.std.proofs.lemmas.Bool.{lt-leb}
 use Rattle.std.proofs.lemmas.List.Elements.{filter_map-append}
 use Rattle.std.proofs.lemmas.List.FromFn.{get_or-map-range_with_len, length-map-range_with_len}
-use Rattle.sm_instance.specs.Written.{Written, row}
+use Rattle.sm_agents.specs.Written.{Written, row}
 use Rattle.sm_instance.specs.Matching.{held, standing, IsAssignment, IsMatching}
 use Rattle.sm_instance.specs.Stable.{IsStable}
 use Rattle.sm_instance.specs.Allowed.{IsAllowed}

@@ -7,10 +7,10 @@ use Rattle.std.specs.Option.{option_map}
 use Rattle.std.proofs.lemmas.Bool.{false≢true}
 use Rattle.std.proofs.lemmas.List.FromFn.{length-map-range_with_len}
 use Rattle.sm_lists.proofs.Counting.{eq_or_ne}
-use Rattle.sm_instance.specs.Written.{Written, entry, place_of}
+use Rattle.sm_agents.specs.Written.{Written, entry, place_of}
 use Rattle.sm_instance.specs.Matching.{held, leads_to, load_before, IsAssignment, IsMatching}
-use Rattle.sm_instance.specs.Sound.{IsInstance, AreSoundEntries}
-use Rattle.sm_instance.proofs.ListLemmas.{row_in_range}
+use Rattle.sm_agents.specs.Sound.{IsInstance, AreSoundEntries}
+use Rattle.sm_agents.proofs.ListLemmas.{row_in_range}
 use Rattle.sm_instance.proofs.LoadLemmas.{load_before-suc}
 use Rattle.sm_instance.proofs.BreachLemmas.{load_mono}
 use Rattle.sm_instance.proofs.PlaceLemmas.{place_of-entry}

@@ -9,7 +9,7 @@ use Rattle.std.proofs.lemmas.List.FromFn.{length-map-range_with_len, get_or-map-
 use Rattle.sm_lists.proofs.Counting.{eq_or_ne, less_same_more}
 use Rattle.sm_lists.proofs.RowLemmas.{row_in_range}
 use Rattle.sm_lists.specs.Rows.{row}
-use Rattle.sm_instance.specs.Written.{AgentData, lists_of}
+use Rattle.sm_agents.specs.Written.{AgentData, lists_of}
 use Rattle.sm_instance.specs.declared.inputs.Input.TheVariants.{Room}
 use Rattle.sm_theory.specs.Partitions.{successor_in, after, IsStablePartition, IsInOddParty}
 use Rattle.sm_theory.proofs.Room.Bridge.{one_successor}

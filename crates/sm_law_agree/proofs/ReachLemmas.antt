@@ -4,8 +4,8 @@ use Rattle.std.specs.List.{list_any}
 use Rattle.std.proofs.lemmas.Bool.{and_from, or_left, false_from_ne_true, lt-ltb}
 use Rattle.std.proofs.lemmas.List.Folds.{list_any_at}
 use Rattle.sm_lists.proofs.Counting.{eq_or_ne}
-use Rattle.sm_instance.specs.Written.{Written}
-use Rattle.sm_instance.specs.declared.kinds.Measure.{Measure}
+use Rattle.sm_agents.specs.Written.{Written}
+use Rattle.sm_agents.specs.declared.kinds.Measure.{Measure}
 use Rattle.sm_market.specs.Lists.{row}
 use Rattle.sm_market.specs.Matching.{Places}
 use Rattle.sm_theory.specs.Chains.{rotation_at, IsNeededBy, AreNeeds}

@@ -2,9 +2,9 @@
 use Rattle.std.proofs.Common.{◌≡◌, ℕ, zero, suc, ◌+◌, ◌<◌, ◌≤◌, ◌^◌, arith, refl, sym, ap, ◌∙◌, true, List, [], ◌∷◌, ◌++◌, length, map, fold, max, slice_index_or, Option, Some, None, subst}
 use Rattle.std.specs.List.{list_all, range_with_len, All}
 use Rattle.std.proofs.lemmas.List.Elements.{All-append, All-cons}
-use Rattle.sm_instance.specs.Written.{Written, entry}
+use Rattle.sm_agents.specs.Written.{Written, entry}
 use Rattle.sm_instance.specs.Matching.{held, IsMatching}
-use Rattle.sm_instance.specs.Sound.{IsInstance}
+use Rattle.sm_agents.specs.Sound.{IsInstance}
 use Rattle.sm_instance.specs.Stable.{IsStable}
 use Rattle.sm_instance.specs.Allowed.{IsAllowed}
 use Rattle.sm_instance.specs.Ranks.{worse_rank, regret_of}

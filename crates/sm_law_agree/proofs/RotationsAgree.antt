@@ -3,10 +3,10 @@ use Rattle.std.proofs.Common.{◌≡◌, ℕ, zero, suc, ◌&&◌, ◌+◌, ◌-
 use Rattle.std.specs.Prelude.{IfSome, slice_index}
 use Rattle.std.specs.List.{All, list_all, flat_map, range_with_len}
 use Rattle.std.proofs.lemmas.List.{get_or-take, length-take-le, take_more}
-use Rattle.sm_instance.specs.Written.{Written}
-use Rattle.sm_instance.specs.Sound.{IsInstance}
+use Rattle.sm_agents.specs.Written.{Written}
+use Rattle.sm_agents.specs.Sound.{IsInstance}
 use Rattle.sm_instance.specs.declared.inputs.Input.TheVariants.{Two}
-use Rattle.sm_instance.specs.declared.kinds.Side.TheVariants.{Proposers}
+use Rattle.sm_agents.specs.declared.kinds.Side.TheVariants.{Proposers}
 use Rattle.sm_market.specs.Lists.{Lists, row, IsMarket}
 use Rattle.sm_market.specs.Matching.{Places}
 use Rattle.sm_market.specs.Stable.{IsProposersBest}

@@ -4,9 +4,9 @@ use Rattle.std.specs.Prelude.{pos, negsuc}
 use Rattle.std.specs.Int.RustNames.{unsigned_abs}
 use Rattle.std.proofs.lemmas.List.Elements.{All-cons}
 use Rattle.sm_text.specs.Limits.{most_weight}
-use Rattle.sm_instance.specs.Sound.{IsInstance}
+use Rattle.sm_agents.specs.Sound.{IsInstance}
 use Rattle.sm_instance.specs.Lightest.{IsLightestByBoth}
-use Rattle.sm_instance.specs.declared.kinds.Measure.TheVariants.{Given}
+use Rattle.sm_agents.specs.declared.kinds.Measure.TheVariants.{Given}
 use Rattle.sm_answer.proofs.AnswerLemmas.{one_all}
 use Rattle.sm_theory.specs.ClosedSets.{matching_of}
 use Rattle.sm_theory.specs.Net.{Net, sink_of, HasEdge}

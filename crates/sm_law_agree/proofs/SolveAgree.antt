@@ -1,12 +1,12 @@
 -- A right answer of `solve` over an instance with two sides gets a yes.
 use Rattle.std.proofs.Common.{◌≡◌, ℕ, refl, sym, true, List, [], ◌∷◌, length, Option, Some, subst}
 use Rattle.std.specs.List.{list_all}
-use Rattle.sm_instance.specs.Written.{Written, entry}
-use Rattle.sm_instance.specs.Sound.{IsInstance}
+use Rattle.sm_agents.specs.Written.{Written, entry}
+use Rattle.sm_agents.specs.Sound.{IsInstance}
 use Rattle.sm_instance.specs.Stable.{IsStable, IsBestOf}
 use Rattle.sm_instance.specs.declared.inputs.Input.TheVariants.{Two}
-use Rattle.sm_instance.specs.declared.kinds.Side.{Side}
-use Rattle.sm_instance.specs.declared.kinds.Side.TheVariants.{Proposers, Reviewers}
+use Rattle.sm_agents.specs.declared.kinds.Side.{Side}
+use Rattle.sm_agents.specs.declared.kinds.Side.TheVariants.{Proposers, Reviewers}
 use Rattle.sm_report.specs.Heads.{HeadData}
 use Rattle.sm_report.specs.Lines.{LineData}
 use Rattle.sm_answer_solve.specs.Solution.{solve_lines}

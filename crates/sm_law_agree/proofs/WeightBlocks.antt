@@ -2,12 +2,12 @@
 use Rattle.std.proofs.Common.{◌≡◌, ℕ, ◌&&◌, ◌+◌, ◌-◌, ◌<◌, arith, refl, sym, ap, ◌∙◌, pred, Bool, true, false, if◌then◌else◌, List, [], ◌∷◌, ◌++◌, length, map, take, Option, subst, ℤ, append-nil, append_assoc}
 use Rattle.std.specs.List.{All, list_all, flat_map, range_with_len}
 use Rattle.std.proofs.lemmas.List.{length-take-le, take_more}
-use Rattle.sm_instance.specs.Written.{Written}
-use Rattle.sm_instance.specs.Sound.{IsInstance}
+use Rattle.sm_agents.specs.Written.{Written}
+use Rattle.sm_agents.specs.Sound.{IsInstance}
 use Rattle.sm_instance.specs.declared.inputs.Input.TheVariants.{Two}
 use Rattle.sm_instance.specs.Ranks.{pair_weight}
-use Rattle.sm_instance.specs.declared.kinds.Measure.{Measure}
-use Rattle.sm_instance.specs.declared.kinds.Side.TheVariants.{Proposers}
+use Rattle.sm_agents.specs.declared.kinds.Measure.{Measure}
+use Rattle.sm_agents.specs.declared.kinds.Side.TheVariants.{Proposers}
 use Rattle.sm_market.specs.Lists.{Lists, row, IsMarket}
 use Rattle.sm_market.specs.Matching.{Places, IsMatching}
 use Rattle.sm_market.specs.Stable.{IsProposersBest}

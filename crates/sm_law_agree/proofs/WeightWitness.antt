@@ -6,12 +6,12 @@ use Rattle.std.specs.Int.RustNames.{unsigned_abs}
 use Rattle.std.proofs.lemmas.List.Elements.{All-cons, All-from_recursion}
 use Rattle.sm_text.specs.Limits.{most_weight}
 use Rattle.sm_lists.proofs.OrderLemmas.{range_is_each_once}
-use Rattle.sm_instance.proofs.SecondLemmas.{zeros_small}
-use Rattle.sm_instance.specs.Written.{Written}
-use Rattle.sm_instance.specs.Sound.{IsInstance, IsPairOf, IsSoundItem, items_of}
+use Rattle.sm_agents.proofs.SecondLemmas.{zeros_small}
+use Rattle.sm_agents.specs.Written.{Written}
+use Rattle.sm_agents.specs.Sound.{IsInstance, IsPairOf, IsSoundItem, items_of}
 use Rattle.sm_lists.specs.Pairs.{pair_at}
 use Rattle.sm_instance.specs.declared.inputs.Input.TheVariants.{Two}
-use Rattle.sm_instance.specs.declared.kinds.Measure.TheVariants.{Given}
+use Rattle.sm_agents.specs.declared.kinds.Measure.TheVariants.{Given}
 use Rattle.sm_market.specs.Matching.{Places}
 use Rattle.sm_answer.proofs.AnswerLemmas.{one_all}
 use Rattle.sm_report.specs.Heads.{HeadData}

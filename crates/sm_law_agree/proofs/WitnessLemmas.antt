@@ -7,13 +7,13 @@ use Rattle.std.proofs.lemmas.Bool.Decides.{nat_tests}
 use Rattle.std.proofs.lemmas.Option.{same_Some, none-some}
 use Rattle.sm_text.specs.Name as name
 use Rattle.sm_lists.proofs.OrderLemmas.{range_is_each_once}
-use Rattle.sm_instance.proofs.SecondLemmas.{zeros_small}
-use Rattle.sm_instance.specs.Written.{AgentData, Written, agent_at, row, entry, capacity_of, IsAcceptable}
+use Rattle.sm_agents.proofs.SecondLemmas.{zeros_small}
+use Rattle.sm_agents.specs.Written.{AgentData, Written, agent_at, row, entry, capacity_of, IsAcceptable}
 use Rattle.sm_instance.specs.Matching.{held, standing, load, IsMatching}
 use Rattle.sm_instance.specs.Stable.{Blocks, IsStable, IsProposersBest, IsReviewersBest}
 use Rattle.sm_instance.specs.Allowed.{IsAllowed}
 use Rattle.sm_instance.specs.Ranks.{rank_vector_of, regret_of, IsBefore, order_of}
-use Rattle.sm_instance.specs.Sound.{IsInstance, IsSoundAgent, IsSoundEntry}
+use Rattle.sm_agents.specs.Sound.{IsInstance, IsSoundAgent, IsSoundEntry}
 use Rattle.sm_instance.specs.Witnesses.{agent}
 use Rattle.sm_instance.specs.declared.inputs.Input.TheVariants.{Two}
 use Rattle.sm_market.specs.Matching.{Places}

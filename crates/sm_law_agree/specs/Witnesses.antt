@@ -1,11 +1,11 @@
 -- Right answers that are known by hand, so that no law is about nothing.
 use Rattle.std.specs.Prelude.{ℕ, List, [], ◌∷◌, Option, None, Some, codes, pos, negsuc}
-use Rattle.sm_instance.specs.Written.{AgentData, Written, plain_written}
-use Rattle.sm_instance.specs.Sound.{IsInstance}
+use Rattle.sm_agents.specs.Written.{AgentData, Written, plain_written}
+use Rattle.sm_agents.specs.Sound.{IsInstance}
 use Rattle.sm_instance.specs.Witnesses.{agent}
-use Rattle.sm_instance.specs.declared.kinds.Kind.TheVariants.{Marriage}
-use Rattle.sm_instance.specs.declared.kinds.Measure.TheVariants.{Given}
-use Rattle.sm_instance.specs.declared.kinds.Side.TheVariants.{Proposers, Reviewers}
+use Rattle.sm_agents.specs.declared.kinds.Kind.TheVariants.{Marriage}
+use Rattle.sm_agents.specs.declared.kinds.Measure.TheVariants.{Given}
+use Rattle.sm_agents.specs.declared.kinds.Side.TheVariants.{Proposers, Reviewers}
 use Rattle.sm_theory.specs.declared.choice.Choice.TheVariants.{Better, Worse}
 use Rattle.sm_seats.specs.SeatEntries.{AreFewSeats}
 use Rattle.sm_report.specs.declared.lines.Seat.{Seat}

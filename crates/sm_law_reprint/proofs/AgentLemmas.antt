@@ -11,11 +11,11 @@ use Rattle.std.proofs.Math.Seq.{get_or-append_seam}
 use Rattle.sm_text.specs.Limits.{most_agents, most_entries, most_capacity}
 use Rattle.sm_text.specs.Name.{is_name}
 use Rattle.sm_text.specs.Tokens.{tokens}
-use Rattle.sm_instance.specs.Sound.{is_single}
-use Rattle.sm_instance.specs.declared.kinds.Kind.{Kind}
-use Rattle.sm_instance.specs.declared.kinds.Kind.TheVariants.{Marriage, Hospitals, Roommates}
-use Rattle.sm_instance.specs.declared.kinds.Side.TheVariants.{Proposers, Reviewers}
-use Rattle.sm_instance.specs.Named.{SaidAgent, Said, nothing, names_of, entries_of}
+use Rattle.sm_agents.specs.Sound.{is_single}
+use Rattle.sm_agents.specs.declared.kinds.Kind.{Kind}
+use Rattle.sm_agents.specs.declared.kinds.Kind.TheVariants.{Marriage, Hospitals, Roommates}
+use Rattle.sm_agents.specs.declared.kinds.Side.TheVariants.{Proposers, Reviewers}
+use Rattle.sm_agents.specs.Named.{SaidAgent, Said, nothing, names_of, entries_of}
 use Rattle.sm_reader.specs.Judging.{goes, verdict_on, said_with, capacity_in}
 use Rattle.sm_keys.specs.Tables.{has_repeated}
 use Rattle.sm_keys.proofs.TextLemmas.{equal_text}

@@ -3,10 +3,10 @@ use Rattle.std.proofs.Common.{◌≡◌, ℕ, suc, ◌+◌, ◌<◌, ◌||◌, B
 use Rattle.std.specs.List.{list_any, range_with_len, zip}
 use Rattle.std.specs.Cmp.Lexicographic.{pointwise}
 use Rattle.std.proofs.lemmas.Slice.Eq.{bytes_eq-Decides}
-use Rattle.sm_instance.specs.Written.{AgentData, row, entry, weighed, names_of as names_in}
-use Rattle.sm_instance.specs.Sound.{AreSoundAgents, IsPairOf}
+use Rattle.sm_agents.specs.Written.{AgentData, row, entry, weighed, names_of as names_in}
+use Rattle.sm_agents.specs.Sound.{AreSoundAgents, IsPairOf}
 use Rattle.sm_lists.specs.EachOnce.{IsEachOnce}
-use Rattle.sm_instance.specs.Named.{SaidAgent, SaidPair, SaidWeight, names_of, names_first}
+use Rattle.sm_agents.specs.Named.{SaidAgent, SaidPair, SaidWeight, names_of, names_first}
 use Rattle.sm_keys.specs.Tables.{is_unknown, number_in}
 use Rattle.sm_reader.specs.InstanceText.{lines_with_unknown, pairs_with_unknown, order_with_unknown, numbered, full_order}
 use Rattle.sm_printed.specs.Names.{name_of, said_agent, said_pair, said_weight}

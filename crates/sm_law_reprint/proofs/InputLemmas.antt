@@ -6,12 +6,12 @@ use Rattle.std.proofs.lemmas.Slice.Zip.{length-zip, get_or-zip}
 use Rattle.std.proofs.lemmas.List.{length-map, get_or-map, get_or_default}
 use Rattle.std.proofs.lemmas.List.Elements.{All-map}
 use Rattle.sm_text.specs.Limits.{most_agents, most_entries}
-use Rattle.sm_instance.specs.Written.{AgentData, Written, no_agent, agent_at, row, weighed, names_of as names_in}
-use Rattle.sm_instance.specs.Sound.{AreSoundAgents, AreSoundEntries, IsPairOf, items_of, is_single, IsInstance, ArePersons, entries_of as entries_in}
-use Rattle.sm_instance.specs.declared.kinds.Kind.TheVariants.{Roommates}
+use Rattle.sm_agents.specs.Written.{AgentData, Written, no_agent, agent_at, row, weighed, names_of as names_in}
+use Rattle.sm_agents.specs.Sound.{AreSoundAgents, AreSoundEntries, IsPairOf, items_of, is_single, IsInstance, ArePersons, entries_of as entries_in}
+use Rattle.sm_agents.specs.declared.kinds.Kind.TheVariants.{Roommates}
 use Rattle.sm_instance.specs.declared.inputs.Input.TheVariants.{Two, Room}
-use Rattle.sm_instance.specs.Named.{SaidAgent, SaidPair, SaidWeight, names_of, entries_of}
-use Rattle.sm_instance.proofs.ItemLemmas.{length-items, item_first, pair_at-weighed}
+use Rattle.sm_agents.specs.Named.{SaidAgent, SaidPair, SaidWeight, names_of, entries_of}
+use Rattle.sm_agents.proofs.ItemLemmas.{length-items, item_first, pair_at-weighed}
 use Rattle.sm_printed.specs.Names.{name_of, said_agent, said_pair, said_weight, said_of}
 use Rattle.sm_printed.proofs.ItemLemmas.{weight_there, force_there, forbid_there}
 use Rattle.sm_law_reprint.proofs.AgentLemmas.{IsOwn, AreAgents}

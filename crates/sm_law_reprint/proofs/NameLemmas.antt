@@ -8,8 +8,8 @@ use Rattle.std.proofs.lemmas.List.Elements.{All-map}
 use Rattle.std.proofs.lemmas.List.Folds.{list_any_at, list_any_none}
 use Rattle.std.proofs.lemmas.List.Sums.{position_or_len_is}
 use Rattle.sm_text.specs.Name.{is_name}
-use Rattle.sm_instance.specs.Written.{AgentData, no_agent, names_of as names_in}
-use Rattle.sm_instance.specs.Sound.{AreSoundAgents}
+use Rattle.sm_agents.specs.Written.{AgentData, no_agent, names_of as names_in}
+use Rattle.sm_agents.specs.Sound.{AreSoundAgents}
 use Rattle.sm_keys.specs.Tables.{has_repeated, is_unknown, number_in}
 use Rattle.sm_keys.proofs.TextLemmas.{same_text, other_text}
 use Rattle.sm_printed.specs.Names.{name_of}

@@ -9,15 +9,15 @@ use Rattle.std.proofs.lemmas.List.Elements.{All-head, All-tail}
 use Rattle.sm_text.specs.Limits.{most_weight}
 use Rattle.sm_text.specs.Name.{is_name}
 use Rattle.sm_text.specs.Tokens.{tokens}
-use Rattle.sm_instance.specs.declared.kinds.Kind.{Kind}
-use Rattle.sm_instance.specs.declared.kinds.Kind.TheVariants.{Roommates}
-use Rattle.sm_instance.specs.Named.{SaidAgent, SaidPair, SaidWeight, Said, nothing, is_given_to}
+use Rattle.sm_agents.specs.declared.kinds.Kind.{Kind}
+use Rattle.sm_agents.specs.declared.kinds.Kind.TheVariants.{Roommates}
+use Rattle.sm_agents.specs.Named.{SaidAgent, SaidPair, SaidWeight, Said, nothing, is_given_to}
 use Rattle.sm_reader.specs.Judging.{goes, verdict_on}
 use Rattle.sm_keys.proofs.TextLemmas.{equal_text}
 use Rattle.sm_report.proofs.DecimalLemmas.{first_true, second_true, signed_of-decimal}
-use Rattle.sm_instance.proofs.NonzeroLemmas.{zero_is}
+use Rattle.sm_agents.proofs.NonzeroLemmas.{zero_is}
 use Rattle.sm_text.specs.Tokens.{begins_run}
-use Rattle.sm_instance.specs.Ranks.{is_zero}
+use Rattle.sm_agents.specs.Nonzero.{is_zero}
 use Rattle.sm_printed.specs.Printed.{pair_text, weight_line, force_line, forbid_line}
 use Rattle.sm_law_reprint.proofs.CutLemmas.{tokens-run, tokens-run_alone, tokens-blank, no_run}
 use Rattle.sm_law_reprint.proofs.LineLemmas.{words_cut, tokens-pair, signed_is_run, begins_run-run, HasNoEnds, both_free, name_free, run_free, words_free}

@@ -10,17 +10,17 @@ use Rattle.sm_text.specs.Limits.{most_bytes}
 use Rattle.sm_text.specs.Lines.{LF}
 use Rattle.sm_text.specs.Name.{is_name}
 use Rattle.sm_text.specs.Tokens.{begins_run, tokens}
-use Rattle.sm_instance.specs.Sound.{is_single}
-use Rattle.sm_instance.specs.declared.kinds.Kind.{Kind}
-use Rattle.sm_instance.specs.declared.kinds.Kind.TheVariants.{Roommates}
-use Rattle.sm_instance.specs.Named.{SaidAgent, SaidPair, SaidWeight, SaidOrder, Said, nothing, entries_of}
+use Rattle.sm_agents.specs.Sound.{is_single}
+use Rattle.sm_agents.specs.declared.kinds.Kind.{Kind}
+use Rattle.sm_agents.specs.declared.kinds.Kind.TheVariants.{Roommates}
+use Rattle.sm_agents.specs.Named.{SaidAgent, SaidPair, SaidWeight, SaidOrder, Said, nothing, entries_of}
 use Rattle.sm_report.proofs.FreeLemmas.{is_free}
 use Rattle.sm_report.specs.Fields.{spaced}
 use Rattle.sm_answer.specs.Writing.{text_of}
 use Rattle.sm_reader.specs.Judging.{verdict_on, heading_of}
 use Rattle.sm_keys.specs.Tables.{has_repeated}
 use Rattle.sm_reader.specs.InstanceText.{ended, behind_header, before_header, instance_text}
-use Rattle.sm_instance.specs.Ranks.{is_zero}
+use Rattle.sm_agents.specs.Nonzero.{is_zero}
 use Rattle.sm_printed.specs.Printed.{format_of, header_line, proposer_line, reviewer_line, weight_line, force_line, forbid_line, order_line, order_lines, last_lines, agent_lines, printed_lines}
 use Rattle.sm_law_reprint.proofs.CutLemmas.{with_end, lines_cut, content_of, no_run, tokens-spaced}
 use Rattle.sm_law_reprint.proofs.LineLemmas.{HasNoEnds, both_free, spaced_free, header_free, words_free, order_cut}

@@ -5,12 +5,12 @@ use Rattle.std.specs.Cmp.Lexicographic.{pointwise}
 use Rattle.std.proofs.lemmas.List.{length-map}
 use Rattle.std.proofs.lemmas.Slice.Zip.{length-zip, get_or-zip}
 use Rattle.sm_text.specs.Limits.{most_bytes}
-use Rattle.sm_instance.specs.Written.{AgentData, Written, row, entry, weighed, names_of as names_in}
-use Rattle.sm_instance.specs.Sound.{IsInstance, IsPairOf, ArePersons, is_single}
-use Rattle.sm_instance.specs.declared.kinds.Kind.{Kind}
-use Rattle.sm_instance.specs.declared.kinds.Kind.TheVariants.{Marriage, Hospitals, Roommates}
+use Rattle.sm_agents.specs.Written.{AgentData, Written, row, entry, weighed, names_of as names_in}
+use Rattle.sm_agents.specs.Sound.{IsInstance, IsPairOf, ArePersons, is_single}
+use Rattle.sm_agents.specs.declared.kinds.Kind.{Kind}
+use Rattle.sm_agents.specs.declared.kinds.Kind.TheVariants.{Marriage, Hospitals, Roommates}
 use Rattle.sm_instance.specs.declared.inputs.Input.TheVariants.{Two, Room}
-use Rattle.sm_instance.specs.Named.{SaidAgent, Said, names_of, names_first}
+use Rattle.sm_agents.specs.Named.{SaidAgent, Said, names_of, names_first}
 use Rattle.sm_answer.specs.Writing.{text_of}
 use Rattle.sm_reader.specs.InstanceText.{ended, listed_by_proposers, unknown_lines, lines_with_unknown, two_sides, input_of, full_order}
 use Rattle.sm_keys.specs.Tables.{number_in}

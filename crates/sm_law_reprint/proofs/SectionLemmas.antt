@@ -6,8 +6,8 @@ use Rattle.std.proofs.lemmas.List.Elements.{All-head, All-tail}
 use Rattle.std.proofs.lemmas.Bool.{and_from}
 use Rattle.sm_text.specs.Lines.{LF, content}
 use Rattle.sm_text.specs.Tokens.{tokens}
-use Rattle.sm_instance.specs.declared.kinds.Kind.{Kind}
-use Rattle.sm_instance.specs.Named.{Said}
+use Rattle.sm_agents.specs.declared.kinds.Kind.{Kind}
+use Rattle.sm_agents.specs.Named.{Said}
 use Rattle.sm_answer.specs.Writing.{text_of}
 use Rattle.sm_report.proofs.FreeLemmas.{is_free}
 use Rattle.sm_reader.specs.Judging.{goes, verdict_on}

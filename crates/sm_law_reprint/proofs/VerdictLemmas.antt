@@ -9,11 +9,11 @@ use Rattle.sm_text.specs.Limits.{most_agents, most_entries}
 use Rattle.sm_text.specs.Name.{begins_name, is_name_byte, is_name}
 use Rattle.sm_text.specs.Tokens.{is_mark, begins_run, tokens}
 use Rattle.sm_text.specs.declared.refusal.RefusalKind.TheVariants.{BadName, BadNumber, Redeclared, RepeatedEntry, RepeatedWeight, TooManyAgents, TooManyEntries}
-use Rattle.sm_instance.specs.declared.kinds.Kind.{Kind}
-use Rattle.sm_instance.specs.declared.kinds.Kind.TheVariants.{Marriage, Hospitals, Roommates}
-use Rattle.sm_instance.specs.declared.kinds.Side.{Side}
-use Rattle.sm_instance.specs.declared.kinds.Side.TheVariants.{Proposers, Reviewers}
-use Rattle.sm_instance.specs.Named.{SaidPair, SaidWeight, Said, names_of, agents_on, all_entries, is_given_to}
+use Rattle.sm_agents.specs.declared.kinds.Kind.{Kind}
+use Rattle.sm_agents.specs.declared.kinds.Kind.TheVariants.{Marriage, Hospitals, Roommates}
+use Rattle.sm_agents.specs.declared.kinds.Side.{Side}
+use Rattle.sm_agents.specs.declared.kinds.Side.TheVariants.{Proposers, Reviewers}
+use Rattle.sm_agents.specs.Named.{SaidPair, SaidWeight, Said, names_of, agents_on, all_entries, is_given_to}
 use Rattle.sm_reader.specs.Forms.{Form, declares, orders, weighs, list_form, capacity_form, weight_form, pair_form, reviewer_form, two_sided_form, form_behind, order_form, second_form, two_sided_added_form, added_form, form_under, is_end, header_of}
 use Rattle.sm_keys.specs.Tokens.{is_bad}
 use Rattle.sm_reader.specs.Judging.{goes, stops, of_form, heads, heading_of, verdict_on, first_fault, fault_of, said_with, is_bad_capacity, weight_in, second_in}

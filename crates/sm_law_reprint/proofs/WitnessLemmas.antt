@@ -7,9 +7,9 @@ use Rattle.sm_text.specs.Name as name
 use Rattle.sm_text.specs.Tokens as token
 use Rattle.sm_text.specs.Name.{is_name}
 use Rattle.sm_lists.proofs.OrderLemmas.{range_is_each_once}
-use Rattle.sm_instance.proofs.SecondLemmas.{zeros_small}
-use Rattle.sm_instance.specs.Written.{AgentData, agent_at, row}
-use Rattle.sm_instance.specs.Sound.{IsSoundAgent, AreSoundAgents, IsSoundEntry, AreSoundEntries, IsSoundItem, items_of}
+use Rattle.sm_agents.proofs.SecondLemmas.{zeros_small}
+use Rattle.sm_agents.specs.Written.{AgentData, agent_at, row}
+use Rattle.sm_agents.specs.Sound.{IsSoundAgent, AreSoundAgents, IsSoundEntry, AreSoundEntries, IsSoundItem, items_of}
 use Rattle.sm_reader.specs.Forms as form
 use Rattle.sm_keys.specs.Tokens.{is_bad}
 use Rattle.sm_reader.specs.Judging as judge

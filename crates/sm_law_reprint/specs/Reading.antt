@@ -1,7 +1,7 @@
 -- What the text of a printed instance means.
 use Rattle.std.specs.Prelude.{◌≡◌, ℕ, ◌≤◌, List, length, map, Some, Ok}
 use Rattle.sm_text.specs.Limits.{most_bytes}
-use Rattle.sm_instance.specs.Written.{AgentData}
+use Rattle.sm_agents.specs.Written.{AgentData}
 use Rattle.sm_instance.specs.Inputs.{IsInput}
 use Rattle.sm_instance.specs.declared.inputs.Input.{Input}
 use Rattle.sm_instance.specs.declared.inputs.Input.TheVariants.{Two, Room}

@@ -1,7 +1,7 @@
 -- Small instances, printed and read back.
 use Rattle.std.specs.Prelude.{◌≡◌, ℕ, ◌≤◌, List, [], ◌∷◌, length, codes, Ok}
 use Rattle.sm_text.specs.Limits.{most_bytes}
-use Rattle.sm_instance.specs.Written.{AgentData, Written}
+use Rattle.sm_agents.specs.Written.{AgentData, Written}
 use Rattle.sm_instance.specs.Inputs.{IsInput}
 use Rattle.sm_instance.specs.declared.inputs.Input.TheVariants.{Two, Room}
 use Rattle.sm_reader.specs.InstanceText.{instance_text}

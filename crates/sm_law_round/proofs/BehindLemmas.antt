@@ -9,8 +9,8 @@ use Rattle.sm_text.specs.Lines.{LF, CR, lines, content, texts_from}
 use Rattle.sm_text.specs.Tokens.{tokens}
 use Rattle.sm_instance.specs.Inputs.{IsInput}
 use Rattle.sm_instance.specs.declared.inputs.Input.{Input}
-use Rattle.sm_instance.specs.declared.kinds.Kind.{Kind}
-use Rattle.sm_instance.specs.Named.{Said, nothing}
+use Rattle.sm_agents.specs.declared.kinds.Kind.{Kind}
+use Rattle.sm_agents.specs.Named.{Said, nothing}
 use Rattle.sm_reader.specs.Judging.{Verdict, goes, stops, refuses, Heading, passes, heads, faces, verdict_on, by_verdict, heading_of, by_heading}
 use Rattle.sm_reader.specs.InstanceText.{ReadText, instance_text, before_header, behind_header, ended}
 use Rattle.sm_report.specs.Lines.{LineData}

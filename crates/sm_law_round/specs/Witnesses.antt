@@ -2,7 +2,7 @@
 use Rattle.std.specs.Prelude.{ℕ, ◌≤◌, List, [], ◌∷◌, ◌++◌, length, map, codes, None}
 use Rattle.sm_text.specs.Limits.{most_bytes}
 use Rattle.sm_instance.specs.declared.inputs.Input.TheVariants.{Two}
-use Rattle.sm_instance.specs.declared.kinds.Measure.TheVariants.{Given}
+use Rattle.sm_agents.specs.declared.kinds.Measure.TheVariants.{Given}
 use Rattle.sm_reader.specs.InstanceText.{ReadText}
 use Rattle.sm_report.specs.Texts.{text_of_line}
 use Rattle.sm_answer.specs.Writing.{text_of}

@@ -9,10 +9,10 @@ use Rattle.std.proofs.lemmas.List.FromFn.{length-map-range_with_len}
 use Rattle.std.proofs.lemmas.Option.{same_Some}
 use Rattle.sm_lists.specs.Pairs.{pair_at}
 use Rattle.sm_lists.proofs.PlaceLemmas.{get_or-place_on}
-use Rattle.sm_instance.specs.Written.{Written, lists_of, entry, place_of, row, IsAcceptable}
+use Rattle.sm_agents.specs.Written.{Written, lists_of, entry, place_of, row, IsAcceptable}
 use Rattle.sm_instance.specs.Matching.{held, leads_to, is_at, load_before, IsAssignment, IsMatching}
 use Rattle.sm_instance.specs.Stable.{IsStable}
-use Rattle.sm_instance.specs.Sound.{IsInstance}
+use Rattle.sm_agents.specs.Sound.{IsInstance}
 use Rattle.sm_instance.specs.declared.inputs.Input.TheVariants.{Two}
 use Rattle.sm_instance.proofs.LoadLemmas.{load_before-suc, at_place, place_at, test_cases}
 use Rattle.sm_market.specs.Lists.{entry as entry_in_rows}

@@ -4,7 +4,7 @@ use Rattle.std.specs.List.{slice_get}
 use Rattle.std.specs.Option.{option_map}
 use Rattle.std.proofs.lemmas.Bool.{false≢true, lt-ltb, ltb-true}
 use Rattle.std.proofs.lemmas.Option.{same_Some}
-use Rattle.sm_instance.specs.Written.{AgentData}
+use Rattle.sm_agents.specs.Written.{AgentData}
 use Rattle.sm_theory.specs.Rooms.{mate_of}
 use Rattle.sm_report.specs.Heads.{HeadData}
 use Rattle.sm_report.specs.Lines.{LineData}

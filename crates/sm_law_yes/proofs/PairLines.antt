@@ -6,9 +6,9 @@ use Rattle.std.proofs.lemmas.List.{get_or_default, length-map}
 use Rattle.std.proofs.lemmas.Option.{same_Some}
 use Rattle.sm_lists.specs.Pairs.{pair_at}
 use Rattle.sm_lists.proofs.PlaceLemmas.{get_or-place_on}
-use Rattle.sm_instance.specs.Written.{Written, lists_of, place_of as written_place_of, entry as written_entry}
+use Rattle.sm_agents.specs.Written.{Written, lists_of, place_of as written_place_of, entry as written_entry}
 use Rattle.sm_instance.specs.Matching.{IsAssignment}
-use Rattle.sm_instance.specs.Sound.{IsInstance}
+use Rattle.sm_agents.specs.Sound.{IsInstance}
 use Rattle.sm_instance.proofs.CrossLemmas.{row-lists_of}
 use Rattle.sm_instance.proofs.PlaceLemmas.{place_of-entry}
 use Rattle.sm_market.specs.Lists.{row, entry, place_of}

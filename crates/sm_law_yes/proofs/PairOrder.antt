@@ -3,11 +3,11 @@ use Rattle.std.proofs.Common.{◌≡◌, ℕ, refl, sym, ap, ap₂, ◌∙◌, t
 use Rattle.std.specs.Prelude.{IfSome, filter_map}
 use Rattle.std.specs.Option.{is_some}
 use Rattle.std.proofs.lemmas.Bool.{false≢true}
-use Rattle.sm_instance.specs.Written.{Written}
+use Rattle.sm_agents.specs.Written.{Written}
 use Rattle.sm_instance.specs.Stable.{IsStable, IsBestOf}
 use Rattle.sm_instance.specs.Allowed.{IsAllowed}
 use Rattle.sm_instance.specs.Ranks.{regret_of}
-use Rattle.sm_instance.specs.declared.kinds.Side.{Side}
+use Rattle.sm_agents.specs.declared.kinds.Side.{Side}
 use Rattle.sm_theory.specs.declared.choice.Choice.{Choice}
 use Rattle.sm_pairs.specs.Held.{places_in, CanFollow}
 use Rattle.sm_pairs.specs.Chosen.{chosen_places}

@@ -10,7 +10,7 @@ use Rattle.std.proofs.lemmas.List.Folds.{list_all_at}
 use Rattle.std.proofs.lemmas.List.Sums.{sum_by-append, sum_by-cons}
 use Rattle.std.proofs.lemmas.List.Elements.{All-head, All-tail, All-get_or, Contains-get_or}
 use Rattle.std.proofs.lemmas.Option.{same_Some}
-use Rattle.sm_instance.specs.Written.{AgentData, lists_of}
+use Rattle.sm_agents.specs.Written.{AgentData, lists_of}
 use Rattle.sm_instance.specs.declared.inputs.Input.TheVariants.{Room}
 use Rattle.sm_lists.specs.Rows.{row}
 use Rattle.sm_theory.specs.Partitions.{successor_in, after, IsInOddParty}

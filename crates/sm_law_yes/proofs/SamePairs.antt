@@ -5,7 +5,7 @@ use Rattle.std.specs.List.{range_with_len}
 use Rattle.std.specs.Option.{option_map, option_or}
 use Rattle.std.proofs.lemmas.Bool.{cases_eq}
 use Rattle.std.proofs.lemmas.List.Sums.{sum_by-append}
-use Rattle.sm_instance.specs.Written.{Written, place_of, capacity_of}
+use Rattle.sm_agents.specs.Written.{Written, place_of, capacity_of}
 use Rattle.sm_market.specs.Lists.{Lists, place_of as market_place_of, agents}
 use Rattle.sm_theory.specs.Lattice.{with_proposers}
 use Rattle.sm_pairs.specs.Held.{partner_in, places_in, times_second, CanFollow}

@@ -7,7 +7,7 @@ use Rattle.std.proofs.lemmas.Bool.{false≢true}
 use Rattle.std.proofs.lemmas.List.{map-append}
 use Rattle.std.proofs.lemmas.List.Sums.{sum_by-append}
 use Rattle.std.proofs.lemmas.List.Elements.{filter_map-append}
-use Rattle.sm_instance.specs.Written.{Written}
+use Rattle.sm_agents.specs.Written.{Written}
 use Rattle.sm_market.specs.Lists.{Lists}
 use Rattle.sm_market.specs.Matching.{Places}
 use Rattle.sm_market.specs.Reduced.{reduced_lists_of}

@@ -1,9 +1,9 @@
 -- The answers that get a yes are exactly the right ones, by the command's own relation, but for the order of their free lines.
 use Rattle.std.specs.Prelude.{◌↔◌, ◌⊎◌, List, All, Some, None}
-use Rattle.sm_instance.specs.Written.{AgentData, Written}
-use Rattle.sm_instance.specs.Sound.{IsInstance, ArePersons}
+use Rattle.sm_agents.specs.Written.{AgentData, Written}
+use Rattle.sm_agents.specs.Sound.{IsInstance, ArePersons}
 use Rattle.sm_instance.specs.declared.inputs.Input.TheVariants.{Two, Room}
-use Rattle.sm_instance.specs.declared.kinds.Side.{Side}
+use Rattle.sm_agents.specs.declared.kinds.Side.{Side}
 use Rattle.sm_theory.specs.declared.choice.Choice.TheVariants.{Better, Worse}
 use Rattle.sm_seats.specs.SeatEntries.{AreFewSeats}
 use Rattle.sm_report.specs.Heads.{HeadData}

@@ -2,7 +2,7 @@
 use Rattle.std.proofs.Common.{◌≡◌, ◌+◌, ◌-◌, ◌*◌, ◌<◌, ◌≤◌, ℕ, zero, suc, List, ◌∷◌, length, map, drop, refl, sym, ap, ◌∙◌, arith}
 use Rattle.std.specs.List.{range_with_len}
 use Rattle.rand_pcg.specs.Lcg.{Lcg}
-use Rattle.sm_instance.specs.Written.{AgentData}
+use Rattle.sm_agents.specs.Written.{AgentData}
 use Rattle.sm_make.specs.Words.{after, words, of_seed}
 use Rattle.sm_make.specs.Shuffle.{shuffled}
 use Rattle.sm_make.specs.Lists.{rising, rising_without, shuffled_list, shuffled_others}

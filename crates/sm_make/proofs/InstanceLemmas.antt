@@ -8,10 +8,10 @@ use Rattle.std.specs.Cmp.Derive.{both_true}
 use Rattle.sm_text.specs.Limits.{most_agents, most_entries, most_capacity, most_name_bytes}
 use Rattle.sm_text.specs.Name.{begins_name, is_name_byte, is_name}
 use Rattle.sm_lists.proofs.OrderLemmas.{range_is_each_once}
-use Rattle.sm_instance.specs.Written.{AgentData, agent_at, plain_written}
-use Rattle.sm_instance.specs.Sound.{IsInstance, ArePersons, AreSoundAgents, AreSoundEntries, is_single, entries_of}
-use Rattle.sm_instance.specs.declared.kinds.Kind.{Kind}
-use Rattle.sm_instance.specs.declared.kinds.Kind.TheVariants.{Marriage, Hospitals, Roommates}
+use Rattle.sm_agents.specs.Written.{AgentData, agent_at, plain_written}
+use Rattle.sm_agents.specs.Sound.{IsInstance, ArePersons, AreSoundAgents, AreSoundEntries, is_single, entries_of}
+use Rattle.sm_agents.specs.declared.kinds.Kind.{Kind}
+use Rattle.sm_agents.specs.declared.kinds.Kind.TheVariants.{Marriage, Hospitals, Roommates}
 use Rattle.sm_make.specs.Made.{agent, agents_made, plain, proposer_letter, reviewer_letter, hospitals_for}
 use Rattle.sm_make.specs.Lists.{copy_list, copy_list_back, turn_from, shuffled_list, shuffled_others, rising_without}
 use Rattle.sm_make.specs.Laws.{IsSoundList, IsWhole}

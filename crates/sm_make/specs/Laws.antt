@@ -1,7 +1,7 @@
 -- What lemmas say of made lists and sides.
 use Rattle.std.specs.Prelude.{◌≡◌, ◌≢◌, ℕ, ◌+◌, ◌*◌, ◌<◌, ◌≤◌, ◌^◌, List, length, slice_index, true, decimal}
-use Rattle.sm_instance.specs.Written.{agent_at}
-use Rattle.sm_instance.specs.Sound.{AreSoundEntries, entries_of}
+use Rattle.sm_agents.specs.Written.{agent_at}
+use Rattle.sm_agents.specs.Sound.{AreSoundEntries, entries_of}
 use Rattle.sm_text.specs.Name.{is_name_byte}
 use Rattle.std.specs.List.{list_all}
 use Rattle.sm_make.specs.Made.{agents_made}

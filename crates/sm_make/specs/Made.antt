@@ -1,9 +1,9 @@
 -- The instances that are made, as a function of the shape, the size and a list of words.
 use Rattle.std.specs.Prelude.{ℕ, ◌+◌, ◌-◌, ◌*◌, ◌/◌, max, List, [], ◌∷◌, map, decimal}
 use Rattle.std.specs.List.{range_with_len}
-use Rattle.sm_instance.specs.Written.{AgentData, plain_written}
-use Rattle.sm_instance.specs.declared.kinds.Kind.{Kind}
-use Rattle.sm_instance.specs.declared.kinds.Kind.TheVariants.{Marriage, Hospitals}
+use Rattle.sm_agents.specs.Written.{AgentData, plain_written}
+use Rattle.sm_agents.specs.declared.kinds.Kind.{Kind}
+use Rattle.sm_agents.specs.declared.kinds.Kind.TheVariants.{Marriage, Hospitals}
 use Rattle.sm_instance.specs.declared.inputs.Input.{Input}
 use Rattle.sm_instance.specs.declared.inputs.Input.TheVariants.{Two, Room}
 use Rattle.sm_make.specs.Words.{words, of_seed}

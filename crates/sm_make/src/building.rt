@@ -1,8 +1,8 @@
 //! Instances of sides that are known to be sound.
 
 ghost use Rattle.std.specs.Prelude.{◌≡◌, [], IfOk};
-ghost use Rattle.sm_instance.specs.Vectors.{agents_of, written_from};
-ghost use Rattle.sm_instance.specs.Sound.{IsInstance, ArePersons};
+ghost use Rattle.sm_agents.specs.Vectors.{agents_of, written_from};
+ghost use Rattle.sm_agents.specs.Sound.{IsInstance, ArePersons};
 ghost use Rattle.sm_instance.specs.declared.inputs.Input.TheVariants.{Room};
 ghost use Rattle.sm_make.specs.Made.{plain};
 

@@ -6,7 +6,7 @@ use Rattle.std.proofs.lemmas.Bool.{eqb-true, eqb-false, eq-eqb, ne_eqb, cases_lt
 use Rattle.std.proofs.lemmas.Bool.Decides.{eqb_tells}
 use Rattle.std.proofs.lemmas.List.{length-set, get_or-set_same, get_or-set_other, get_or_default}
 use Rattle.std.proofs.lemmas.List.FromFn.{length-map-range_with_len, get_or-map-range_with_len}
-use Rattle.sm_instance.specs.Written.{Written, row, entry, place_of, capacity_of, IsAcceptable}
+use Rattle.sm_agents.specs.Written.{Written, row, entry, place_of, capacity_of, IsAcceptable}
 use Rattle.sm_instance.specs.Matching.{held, leads_to, is_at, load_before, load, IsMatching}
 use Rattle.sm_instance.proofs.LoadLemmas.{load_before-suc}
 use Rattle.sm_pairs.specs.Held.{partner_in, paired_place, places_in}

@@ -8,9 +8,9 @@ use Rattle.std.proofs.lemmas.List.FromFn.{length-map-range_with_len}
 use Rattle.std.proofs.Math.Seq.{take-suc}
 use Rattle.sm_lists.specs.Pairs.{pair_at}
 use Rattle.sm_lists.proofs.PlaceLemmas.{get_or-place_on}
-use Rattle.sm_instance.specs.Written.{Written, entry, place_of}
+use Rattle.sm_agents.specs.Written.{Written, entry, place_of}
 use Rattle.sm_instance.specs.Matching.{held, load, IsMatching}
-use Rattle.sm_instance.proofs.ListLemmas.{row_in_range}
+use Rattle.sm_agents.proofs.ListLemmas.{row_in_range}
 use Rattle.sm_pairs.specs.Held.{partner_in, paired_place, places_in, times_second, CanFollow, EachCanFollow}
 use Rattle.sm_pairs.specs.Holding.{loads_of, CantAdd, Added, AddsPair}
 use Rattle.sm_pairs.specs.PairsKept.{ArePairsHeld, HasJoined, Joins}

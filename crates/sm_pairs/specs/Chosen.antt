@@ -1,7 +1,7 @@
 -- The better and the worse of two matchings of an instance, proposer by proposer.
 use Rattle.std.specs.Prelude.{ℕ, List, length, map, Option}
 use Rattle.std.specs.List.{range_with_len}
-use Rattle.sm_instance.specs.Written.{Written}
+use Rattle.sm_agents.specs.Written.{Written}
 use Rattle.sm_instance.specs.Matching.{held}
 use Rattle.sm_theory.specs.Choices.{chosen}
 use Rattle.sm_theory.specs.declared.choice.Choice.{Choice}

@@ -1,6 +1,6 @@
 -- How well a matching serves its reviewers, and whom one proposer blocks with.
 use Rattle.std.specs.Prelude.{◌≡◌, ℕ, ◌<◌, ◌≤◌, List, length, slice_index, Option, Some}
-use Rattle.sm_instance.specs.Written.{Written, entry, place_of}
+use Rattle.sm_agents.specs.Written.{Written, entry, place_of}
 use Rattle.sm_instance.specs.Matching.{held}
 use Rattle.sm_instance.specs.Stable.{HasWorse, Blocks, IsGainLimit}
 

@@ -3,7 +3,7 @@ use Rattle.std.specs.Prelude.{◌≡◌, ℕ, ◌<◌, ◌==◌, if◌then◌els
 use Rattle.std.specs.List.{range_with_len}
 use Rattle.std.specs.Option.{option_map}
 use Rattle.sm_lists.specs.Pairs.{pair_at}
-use Rattle.sm_instance.specs.Written.{Written, place_of, capacity_of, IsAcceptable}
+use Rattle.sm_agents.specs.Written.{Written, place_of, capacity_of, IsAcceptable}
 use Rattle.sm_instance.specs.Stable.{IsStable}
 
 -- the reviewer that pairs give a proposer, if they give it one

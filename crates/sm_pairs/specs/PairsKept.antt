@@ -1,6 +1,6 @@
 -- What is kept of the pairs so far.
 use Rattle.std.specs.Prelude.{◌≡◌, ℕ, ◌++◌, ◌∷◌, [], Bool, true, false, List}
-use Rattle.sm_instance.specs.Written.{Written}
+use Rattle.sm_agents.specs.Written.{Written}
 use Rattle.sm_instance.specs.Matching.{load}
 use Rattle.sm_pairs.specs.Holding.{IsHolding}
 use Rattle.sm_pairs.specs.declared.holding.Holding.{Holding}

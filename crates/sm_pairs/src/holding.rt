@@ -1,7 +1,7 @@
 //! A matching that grows, one pair after another.
 
 ghost use Rattle.std.specs.Prelude.{◌≡◌, ◌<◌, length, replicate, None, IfOk, MatchOption};
-ghost use Rattle.sm_instance.specs.Written.{IsAcceptable};
+ghost use Rattle.sm_agents.specs.Written.{IsAcceptable};
 ghost use Rattle.sm_pairs.specs.Holding.{IsHolding, AddsPair, IsAcceptableAt};
 
 use sm_instance::{Assignment, Instance};

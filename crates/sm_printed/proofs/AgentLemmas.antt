@@ -2,12 +2,12 @@
 use Rattle.std.proofs.Common.{◌≡◌, ℕ, ◌-◌, ◌<◌, ◌≤◌, List, [], ◌∷◌, ◌++◌, length, map, get_or, slice_index, Some, None, codes, sym, ap, ◌∙◌, arith}
 use Rattle.std.specs.List.{slice_get}
 use Rattle.std.proofs.lemmas.List.{get_or-map, length-map}
-use Rattle.sm_instance.specs.Written.{AgentData, Written, no_agent, agent_at, row, entry}
-use Rattle.sm_instance.specs.Vectors.{agent_of, agents_of}
+use Rattle.sm_agents.specs.Written.{AgentData, Written, no_agent, agent_at, row, entry}
+use Rattle.sm_agents.specs.Vectors.{agent_of, agents_of}
 use Rattle.sm_instance.specs.Inputs.{IsInput, left_of, right_of}
-use Rattle.sm_instance.specs.Named.{SaidAgent}
-use Rattle.sm_instance.specs.declared.agents.Agent.{Agent}
-use Rattle.sm_instance.specs.declared.kinds.Kind.TheVariants.{Roommates}
+use Rattle.sm_agents.specs.Named.{SaidAgent}
+use Rattle.sm_agents.specs.declared.agents.Agent.{Agent}
+use Rattle.sm_agents.specs.declared.kinds.Kind.TheVariants.{Roommates}
 use Rattle.sm_instance.specs.declared.inputs.Input.{Input}
 use Rattle.sm_instance.specs.declared.inputs.Input.TheVariants.{Two, Room}
 use Rattle.sm_printed.specs.Names.{said_agent, said_of}

@@ -2,8 +2,8 @@
 use Rattle.std.proofs.Common.{◌≡◌, ℕ, ◌+◌, Bool, true, false, cond, List, [], ◌∷◌, ◌++◌, length, map, min, Option, Some, None, is_some, codes, refl, sym, ap, ◌∙◌, arith}
 use Rattle.std.specs.List.{zip}
 use Rattle.std.proofs.lemmas.Slice.Zip.{length-zip}
-use Rattle.sm_instance.specs.Written.{Written}
-use Rattle.sm_instance.specs.Named.{SaidOrder}
+use Rattle.sm_agents.specs.Written.{Written}
+use Rattle.sm_agents.specs.Named.{SaidOrder}
 use Rattle.sm_instance.specs.declared.inputs.Input.TheVariants.{Two}
 use Rattle.sm_printed.specs.Names.{said_agent, said_pair, said_weight, said_of}
 use Rattle.sm_printed.specs.Printed.{proposer_line, reviewer_line, weight_line, force_line, forbid_line, order_lines, last_lines, item_lines, agent_lines}

@@ -7,13 +7,14 @@ use Rattle.std.proofs.lemmas.Bool.{false≢true}
 use Rattle.std.proofs.lemmas.List.{map-id}
 use Rattle.std.proofs.lemmas.List.FromFn.{fill_by_all, get_or-range_with_len}
 use Rattle.std.proofs.lemmas.Slice.Eq.{bytes_eq-Decides}
-use Rattle.sm_instance.specs.Written.{Written}
-use Rattle.sm_instance.specs.Sound.{IsInstance}
-use Rattle.sm_instance.specs.Ranks.{is_zero, HasSeconds}
-use Rattle.sm_instance.specs.Named.{SaidWeight}
+use Rattle.sm_agents.specs.Written.{Written}
+use Rattle.sm_agents.specs.Sound.{IsInstance}
+use Rattle.sm_agents.specs.Nonzero.{is_zero}
+use Rattle.sm_instance.specs.Ranks.{HasSeconds}
+use Rattle.sm_agents.specs.Named.{SaidWeight}
 use Rattle.sm_instance.specs.declared.inputs.Input.TheVariants.{Two}
 use Rattle.sm_lists.proofs.OrderLemmas.{each_once_long}
-use Rattle.sm_instance.proofs.NonzeroLemmas.{zero_is, any_is}
+use Rattle.sm_agents.proofs.NonzeroLemmas.{zero_is, any_is}
 use Rattle.sm_printed.specs.Names.{said_weight, said_of}
 use Rattle.sm_printed.specs.Printed.{second_text, format_of}
 

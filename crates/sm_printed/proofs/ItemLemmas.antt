@@ -2,12 +2,12 @@
 use Rattle.std.proofs.Common.{◌≡◌, ℕ, ◌+◌, ◌-◌, ◌<◌, ◌≤◌, List, [], ◌∷◌, ◌++◌, length, map, get_or, min, Some, sym, ap, ◌∙◌, subst, arith, ℤ, pos}
 use Rattle.std.specs.List.{slice_get, zip}
 use Rattle.std.proofs.lemmas.Slice.Zip.{length-zip, get_or-zip}
-use Rattle.sm_instance.specs.Written.{Written, weighed}
-use Rattle.sm_instance.specs.Sound.{IsInstance, IsPairOf}
+use Rattle.sm_agents.specs.Written.{Written, weighed}
+use Rattle.sm_agents.specs.Sound.{IsInstance, IsPairOf}
 use Rattle.sm_lists.specs.Pairs.{pair_at}
-use Rattle.sm_instance.specs.Named.{SaidPair, SaidWeight}
+use Rattle.sm_agents.specs.Named.{SaidPair, SaidWeight}
 use Rattle.sm_instance.specs.declared.inputs.Input.TheVariants.{Two}
-use Rattle.sm_instance.proofs.ItemLemmas.{length-items, item_first, item_second, item_third, pair_at-weighed}
+use Rattle.sm_agents.proofs.ItemLemmas.{length-items, item_first, item_second, item_third, pair_at-weighed}
 use Rattle.sm_printed.specs.Names.{said_pair, said_weight, said_of}
 use Rattle.sm_printed.specs.Printed.{weight_line, force_line, forbid_line, item_lines, last_lines}
 use Rattle.sm_printed.proofs.PlaceLemmas.{part_before, part_behind}

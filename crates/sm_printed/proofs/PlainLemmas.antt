@@ -10,19 +10,19 @@ use Rattle.std.proofs.lemmas.List.{get_or_past, length-map}
 use Rattle.std.proofs.lemmas.List.Elements.{All-nil, All-cons, All-append, All-map, All-from_get_or}
 use Rattle.sm_text.specs.Limits.{most_capacity, most_weight}
 use Rattle.sm_text.specs.Plain.{is_plain, is_plain_byte}
-use Rattle.sm_instance.specs.Written.{AgentData, Written, agent_at, no_agent, weighed}
-use Rattle.sm_instance.specs.Sound.{IsInstance, AreSoundAgents, items_of, is_single}
-use Rattle.sm_instance.specs.Named.{SaidAgent, SaidPair, SaidWeight, Said}
+use Rattle.sm_agents.specs.Written.{AgentData, Written, agent_at, no_agent, weighed}
+use Rattle.sm_agents.specs.Sound.{IsInstance, AreSoundAgents, items_of, is_single}
+use Rattle.sm_agents.specs.Named.{SaidAgent, SaidPair, SaidWeight, Said}
 use Rattle.sm_instance.specs.Inputs.{IsInput}
 use Rattle.sm_instance.specs.declared.inputs.Input.{Input}
 use Rattle.sm_instance.specs.declared.inputs.Input.TheVariants.{Two, Room}
-use Rattle.sm_instance.specs.declared.kinds.Kind.{Kind}
-use Rattle.sm_instance.specs.declared.kinds.Kind.TheVariants.{Marriage, Hospitals, Roommates}
+use Rattle.sm_agents.specs.declared.kinds.Kind.{Kind}
+use Rattle.sm_agents.specs.declared.kinds.Kind.TheVariants.{Marriage, Hospitals, Roommates}
 use Rattle.sm_report.specs.Fields.{spaced}
 use Rattle.sm_report.proofs.InverseLemmas.{by_answer}
 use Rattle.sm_report.proofs.FreeLines.{name_plain, number_plain, signed_plain, both_plain}
 use Rattle.sm_printed.specs.Names.{name_of, said_agent, said_pair, said_weight, said_of}
-use Rattle.sm_instance.specs.Ranks.{is_zero}
+use Rattle.sm_agents.specs.Nonzero.{is_zero}
 use Rattle.sm_printed.specs.Printed.{format_of, kind_word, second_text, order_lines, header_line, list_text, capacity_text, proposer_line, reviewer_line, pair_text, weight_line, force_line, forbid_line, item_lines, agent_lines, lines_of}
 
 -- a text that stands for itself there

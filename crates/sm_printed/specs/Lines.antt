@@ -1,7 +1,7 @@
 -- The lines of an instance, by what they name.
 use Rattle.std.specs.Prelude.{◌≡◌, ℕ, ◌<◌, ◌==◌, true, if◌then◌else◌, List, [], length, Option, Some, None, is_some, codes}
 use Rattle.std.specs.Option.{option_map_or}
-use Rattle.sm_instance.specs.Written.{agent_at}
+use Rattle.sm_agents.specs.Written.{agent_at}
 use Rattle.sm_instance.specs.Inputs.{kind_of, left_of, right_of}
 use Rattle.sm_instance.specs.declared.inputs.Input.{Input}
 use Rattle.sm_printed.specs.Names.{said_agent, said_pair, said_weight, said_of}

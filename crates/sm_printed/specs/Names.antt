@@ -2,8 +2,8 @@
 use Rattle.std.specs.Prelude.{ℕ, if◌then◌else◌, nat_eq, List, [], length, map, Option, Some, None, ℤ}
 use Rattle.std.specs.List.{range_with_len, zip}
 use Rattle.std.specs.Cmp.Lexicographic.{pointwise}
-use Rattle.sm_instance.specs.Written.{AgentData, Written, agent_at}
-use Rattle.sm_instance.specs.Named.{SaidAgent, SaidPair, SaidWeight, SaidOrder, Said, nothing}
+use Rattle.sm_agents.specs.Written.{AgentData, Written, agent_at}
+use Rattle.sm_agents.specs.Named.{SaidAgent, SaidPair, SaidWeight, SaidOrder, Said, nothing}
 use Rattle.sm_instance.specs.declared.inputs.Input.{Input}
 use Rattle.sm_instance.specs.declared.inputs.Input.TheVariants.{Two, Room}
 

@@ -1,7 +1,7 @@
 -- Small instances and their lines, which were written by hand.
 use Rattle.std.specs.Prelude.{◌≡◌, ℕ, List, [], ◌∷◌, pos, negsuc, codes}
-use Rattle.sm_instance.specs.Written.{AgentData, Written, plain_written}
-use Rattle.sm_instance.specs.declared.kinds.Kind.TheVariants.{Marriage, Hospitals}
+use Rattle.sm_agents.specs.Written.{AgentData, Written, plain_written}
+use Rattle.sm_agents.specs.declared.kinds.Kind.TheVariants.{Marriage, Hospitals}
 use Rattle.sm_instance.specs.declared.inputs.Input.TheVariants.{Two, Room}
 use Rattle.sm_printed.specs.Printed.{lines_of}
 

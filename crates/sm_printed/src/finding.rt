@@ -2,7 +2,7 @@
 
 ghost use Rattle.std.specs.Prelude.{◌≡◌, ◌<◌, ◌^◌, length, slice_get, IfSome};
 ghost use Rattle.std.specs.Option.{option_map};
-ghost use Rattle.sm_instance.specs.declared.kinds.Kind.TheVariants.{Roommates};
+ghost use Rattle.sm_agents.specs.declared.kinds.Kind.TheVariants.{Roommates};
 ghost use Rattle.sm_instance.specs.declared.inputs.Input.TheVariants.{Two, Room};
 ghost use Rattle.sm_printed.specs.Lines.{line_text, NamesAgents, end_line_at};
 ghost use Rattle.sm_printed.specs.Printed.{lines_of, agent_lines, item_lines, last_lines};

@@ -2,7 +2,7 @@
 
 ghost use Rattle.std.specs.Prelude.{◌≡◌, ℕ, ◌<◌, ◌++◌, ◌∷◌, length, map, codes, decimal, slice_index};
 ghost use Rattle.sm_instance.specs.Inputs.{IsInput, left_of, right_of};
-ghost use Rattle.sm_instance.specs.Vectors.{agent_of, agents_of};
+ghost use Rattle.sm_agents.specs.Vectors.{agent_of, agents_of};
 ghost use Rattle.sm_report.specs.Fields.{spaced};
 ghost use Rattle.sm_report.specs.Putting.{PutsText};
 ghost use Rattle.sm_printed.specs.Names.{name_of, said_agent};

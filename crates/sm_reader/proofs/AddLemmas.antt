@@ -8,11 +8,11 @@ use Rattle.std.proofs.lemmas.List.{append-nil, length_push, map_push, length-map
 use Rattle.std.proofs.lemmas.List.Sums.{sum_by_push}
 use Rattle.std.proofs.lemmas.Bool.Decides.{nat_tests}
 use Rattle.sm_text.specs.Limits.{most_agents, most_entries}
-use Rattle.sm_instance.specs.declared.kinds.Kind.{Kind}
-use Rattle.sm_instance.specs.declared.kinds.Kind.TheVariants.{Marriage, Hospitals, Roommates}
-use Rattle.sm_instance.specs.declared.kinds.Side.{Side}
-use Rattle.sm_instance.specs.declared.kinds.Side.TheVariants.{Proposers, Reviewers}
-use Rattle.sm_instance.specs.Named.{SaidAgent, entries_of, entries_of_masters}
+use Rattle.sm_agents.specs.declared.kinds.Kind.{Kind}
+use Rattle.sm_agents.specs.declared.kinds.Kind.TheVariants.{Marriage, Hospitals, Roommates}
+use Rattle.sm_agents.specs.declared.kinds.Side.{Side}
+use Rattle.sm_agents.specs.declared.kinds.Side.TheVariants.{Proposers, Reviewers}
+use Rattle.sm_agents.specs.Named.{SaidAgent, entries_of, entries_of_masters}
 use Rattle.sm_keys.specs.Tables.{has_repeated, Table, text_at, Extends, AreBelow}
 use Rattle.sm_reader.specs.Judging.{with_agent}
 use Rattle.sm_reader.specs.Draft.{listed_table, listed_side, agent_in, master_in, said_of, AreAgentsBelow, pairs_of, IsDraft, limit_fault, name_fault, DeclaresOn, ListsOn, PutsOn, AddsAgent}

@@ -1,9 +1,9 @@
 -- Drafts whose tables grow.
 use Rattle.std.proofs.Common.{◌≡◌, ℕ, ◌+◌, ◌≤◌, List, [], ◌∷◌, ◌++◌, length, map, Option, Some, None, refl, ap, ◌∙◌, arith}
-use Rattle.sm_instance.specs.declared.kinds.Kind.{Kind}
-use Rattle.sm_instance.specs.declared.kinds.Kind.TheVariants.{Marriage, Hospitals, Roommates}
+use Rattle.sm_agents.specs.declared.kinds.Kind.{Kind}
+use Rattle.sm_agents.specs.declared.kinds.Kind.TheVariants.{Marriage, Hospitals, Roommates}
 use Rattle.std.specs.Option.{option_map}
-use Rattle.sm_instance.specs.Named.{SaidAgent, SaidPair, SaidWeight, SaidMaster, SaidOrder, Said}
+use Rattle.sm_agents.specs.Named.{SaidAgent, SaidPair, SaidWeight, SaidMaster, SaidOrder, Said}
 use Rattle.sm_keys.specs.Tables.{Table, text_at, Extends, AreBelow}
 use Rattle.sm_reader.specs.Draft.{listed_table, agent_in, pair_in, given_in, order_of, IsOrderBelow, AreAgentsBelow, IsPairBelow, ArePairsBelow, pairs_of, IsDraft}
 use Rattle.sm_reader.specs.declared.draft.Declared.{Declared}

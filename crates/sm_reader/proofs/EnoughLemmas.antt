@@ -10,12 +10,12 @@ use Rattle.sm_text.specs.Name.{is_name}
 use Rattle.sm_text.specs.Tokens.{begins_run}
 use Rattle.sm_text.specs.declared.refusal.RefusalKind.{RefusalKind}
 use Rattle.sm_text.specs.declared.refusal.RefusalKind.TheVariants.{BadByte, BadHeader, BadName, BadNumber, Redeclared, RepeatedEntry}
-use Rattle.sm_instance.specs.declared.kinds.Kind.{Kind}
-use Rattle.sm_instance.specs.declared.kinds.Kind.TheVariants.{Marriage, Hospitals, Roommates}
-use Rattle.sm_instance.specs.declared.kinds.Side.{Side}
-use Rattle.sm_instance.specs.declared.kinds.Side.TheVariants.{Proposers, Reviewers}
-use Rattle.sm_instance.specs.Sound.{is_single}
-use Rattle.sm_instance.specs.Named.{Said, names_of, master_names, agents_on, all_entries}
+use Rattle.sm_agents.specs.declared.kinds.Kind.{Kind}
+use Rattle.sm_agents.specs.declared.kinds.Kind.TheVariants.{Marriage, Hospitals, Roommates}
+use Rattle.sm_agents.specs.declared.kinds.Side.{Side}
+use Rattle.sm_agents.specs.declared.kinds.Side.TheVariants.{Proposers, Reviewers}
+use Rattle.sm_agents.specs.Sound.{is_single}
+use Rattle.sm_agents.specs.Named.{Said, names_of, master_names, agents_on, all_entries}
 use Rattle.sm_keys.specs.Tables.{has_repeated}
 use Rattle.sm_keys.specs.Tokens.{is_bad}
 use Rattle.sm_keys.specs.Enough.{AreEnough, first_tokens}

@@ -5,11 +5,11 @@ use Rattle.std.specs.List.{list_all}
 use Rattle.std.specs.Str.{bytes_eq}
 use Rattle.std.specs.Prelude.{codes}
 use Rattle.sm_text.specs.Tokens.{begins_run}
-use Rattle.sm_instance.specs.Sound.{is_single}
-use Rattle.sm_instance.specs.declared.kinds.Kind.{Kind}
-use Rattle.sm_instance.specs.declared.kinds.Kind.TheVariants.{Marriage, Hospitals, Roommates}
-use Rattle.sm_instance.specs.declared.kinds.Side.{Side}
-use Rattle.sm_instance.specs.declared.kinds.Side.TheVariants.{Proposers, Reviewers}
+use Rattle.sm_agents.specs.Sound.{is_single}
+use Rattle.sm_agents.specs.declared.kinds.Kind.{Kind}
+use Rattle.sm_agents.specs.declared.kinds.Kind.TheVariants.{Marriage, Hospitals, Roommates}
+use Rattle.sm_agents.specs.declared.kinds.Side.{Side}
+use Rattle.sm_agents.specs.declared.kinds.Side.TheVariants.{Proposers, Reviewers}
 use Rattle.sm_reader.specs.declared.forms.Condition.{Condition}
 use Rattle.sm_reader.specs.declared.forms.Condition.TheVariants.{Force, Forbid}
 use Rattle.sm_reader.specs.Forms.{Form, declares, uses, are_brackets, shares, orders, weighs, binds, list_form, capacity_form, weight_form, pair_form, reviewer_form, two_sided_form, form_behind, is_colon, has_two_sides, master_form, use_form, capacity_use_form, reviewer_use_form, order_form, second_form, two_sided_added_form, added_form, form_under}

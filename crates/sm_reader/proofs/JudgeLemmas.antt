@@ -6,9 +6,9 @@ use Rattle.std.specs.Option.{option_or, option_map_or}
 use Rattle.sm_text.specs.Name.{is_name}
 use Rattle.sm_text.specs.declared.refusal.RefusalKind.{RefusalKind}
 use Rattle.sm_text.specs.declared.refusal.RefusalKind.TheVariants.{BadByte, BadHeader, BadName, BadNumber}
-use Rattle.sm_instance.specs.declared.kinds.Kind.{Kind}
-use Rattle.sm_instance.specs.declared.kinds.Side.{Side}
-use Rattle.sm_instance.specs.Named.{Said, names_of, master_names, agents_on, all_entries, entries_named}
+use Rattle.sm_agents.specs.declared.kinds.Kind.{Kind}
+use Rattle.sm_agents.specs.declared.kinds.Side.{Side}
+use Rattle.sm_agents.specs.Named.{Said, names_of, master_names, agents_on, all_entries, entries_named}
 use Rattle.sm_reader.specs.declared.forms.Condition.{Condition}
 use Rattle.sm_reader.specs.Forms.{Form, declares, weighs, binds, uses, shares, orders, form_under, is_end, header_of}
 use Rattle.sm_keys.specs.Tokens.{is_bad}

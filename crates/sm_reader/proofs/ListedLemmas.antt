@@ -10,11 +10,11 @@ use Rattle.std.proofs.lemmas.Bool.{false≢true}
 use Rattle.std.proofs.lemmas.List.{append-nil, length-map}
 use Rattle.sm_text.specs.Name.{is_name, is_name_byte, begins_name}
 use Rattle.sm_text.specs.Tokens.{tokens, is_mark}
-use Rattle.sm_instance.specs.declared.kinds.Kind.{Kind}
-use Rattle.sm_instance.specs.declared.kinds.Kind.TheVariants.{Marriage, Hospitals, Roommates}
-use Rattle.sm_instance.specs.declared.kinds.Side.{Side}
-use Rattle.sm_instance.specs.declared.kinds.Side.TheVariants.{Proposers, Reviewers}
-use Rattle.sm_instance.specs.Named.{Said, entries_of, entries_of_masters}
+use Rattle.sm_agents.specs.declared.kinds.Kind.{Kind}
+use Rattle.sm_agents.specs.declared.kinds.Kind.TheVariants.{Marriage, Hospitals, Roommates}
+use Rattle.sm_agents.specs.declared.kinds.Side.{Side}
+use Rattle.sm_agents.specs.declared.kinds.Side.TheVariants.{Proposers, Reviewers}
+use Rattle.sm_agents.specs.Named.{Said, entries_of, entries_of_masters}
 use Rattle.sm_keys.specs.Tables.{Table, Extends, Declares, IsListed, text_at}
 use Rattle.sm_keys.specs.Tokens.{is_bad}
 use Rattle.sm_keys.proofs.RunLemmas.{run_no_bad}

@@ -15,10 +15,10 @@ use Rattle.sm_text.specs.Name.{is_name}
 use Rattle.sm_text.specs.Slices.{texts_of}
 use Rattle.sm_text.specs.declared.refusal.RefusalKind.{RefusalKind}
 use Rattle.sm_text.specs.declared.refusal.RefusalKind.TheVariants.{BadName, Redeclared, RepeatedEntry, TooManyEntries}
-use Rattle.sm_instance.specs.declared.kinds.Kind.{Kind}
-use Rattle.sm_instance.specs.declared.kinds.Side.{Side}
-use Rattle.sm_instance.specs.declared.kinds.Side.TheVariants.{Proposers, Reviewers}
-use Rattle.sm_instance.specs.Named.{Said, SaidMaster, SaidOrder, entries_of, entries_of_masters, master_names, entries_named, all_entries}
+use Rattle.sm_agents.specs.declared.kinds.Kind.{Kind}
+use Rattle.sm_agents.specs.declared.kinds.Side.{Side}
+use Rattle.sm_agents.specs.declared.kinds.Side.TheVariants.{Proposers, Reviewers}
+use Rattle.sm_agents.specs.Named.{Said, SaidMaster, SaidOrder, entries_of, entries_of_masters, master_names, entries_named, all_entries}
 use Rattle.sm_reader.specs.Forms.{declares, uses, shares, orders}
 use Rattle.sm_keys.specs.Tables.{has_repeated, Table, AreBelow}
 use Rattle.sm_reader.specs.Judging.{fault_of, said_with, with_agent, agent_of}

@@ -9,12 +9,12 @@ use Rattle.std.proofs.lemmas.List.{length-map, length-take-le, get_or-map, map_p
 use Rattle.std.proofs.lemmas.List.Elements.{filter-append}
 use Rattle.std.proofs.lemmas.List.Folds.{list_any-append, list_any_at}
 use Rattle.sm_text.specs.Limits.{most_agents}
-use Rattle.sm_instance.specs.Vectors.{agents_of, written_with, written_in}
-use Rattle.sm_instance.specs.Written.{AgentData, Written}
-use Rattle.sm_instance.specs.declared.agents.Agent.{Agent}
-use Rattle.sm_instance.specs.declared.kinds.Kind.{Kind}
-use Rattle.sm_instance.specs.declared.kinds.Kind.TheVariants.{Marriage, Hospitals, Roommates}
-use Rattle.sm_instance.specs.Named.{SaidPair, SaidWeight, names_of, names_first}
+use Rattle.sm_agents.specs.Vectors.{agents_of, written_with, written_in}
+use Rattle.sm_agents.specs.Written.{AgentData, Written}
+use Rattle.sm_agents.specs.declared.agents.Agent.{Agent}
+use Rattle.sm_agents.specs.declared.kinds.Kind.{Kind}
+use Rattle.sm_agents.specs.declared.kinds.Kind.TheVariants.{Marriage, Hospitals, Roommates}
+use Rattle.sm_agents.specs.Named.{SaidPair, SaidWeight, names_of, names_first}
 use Rattle.sm_lists.specs.Earlier.{earlier_of}
 use Rattle.sm_reader.specs.InstanceText.{lines_with_unknown, pairs_with_unknown, order_with_unknown, least, unknown_lines, listed_by_proposers, numbered, full_order, two_sides}
 use Rattle.sm_keys.specs.Tables.{number_in, AreBelow, Table}
@@ -26,7 +26,7 @@ use Rattle.sm_reader.specs.declared.draft.Weight.{Weight}
 use Rattle.sm_reader.specs.declared.draft.Draft.{Draft}
 use Rattle.sm_reader.specs.declared.numbering.BothNumbered.{BothNumbered}
 use Rattle.sm_reader.specs.declared.numbering.SaidNumbered.{SaidNumbered}
-use Rattle.sm_instance.specs.declared.parts.Parts.{Parts}
+use Rattle.sm_agents.specs.declared.parts.Parts.{Parts}
 
 -- the parts of a front of a list, and one more
 pub front_more : {X Y : Type 0} (f : X → Y) (xs : List X) (i : ℕ) (d : X) → i < length xs → map f (take (i + 1) xs) ≡ map f (take i xs) ++ f (get_or xs i d) ∷ []

@@ -9,10 +9,10 @@ use Rattle.indexmap.specs.IndexSet.{keys}
 use Rattle.sm_text.specs.Name.{is_name}
 use Rattle.sm_text.specs.declared.refusal.RefusalKind.{RefusalKind}
 use Rattle.sm_text.specs.declared.refusal.RefusalKind.TheVariants.{BadName, BadNumber, RepeatedWeight}
-use Rattle.sm_instance.specs.declared.kinds.Kind.{Kind}
-use Rattle.sm_instance.specs.declared.kinds.Side.{Side}
-use Rattle.sm_instance.specs.declared.kinds.Side.TheVariants.{Proposers, Reviewers}
-use Rattle.sm_instance.specs.Named.{SaidPair, SaidWeight, Said, names_of, entries_of, entries_of_masters, all_entries, agents_on, is_given_to}
+use Rattle.sm_agents.specs.declared.kinds.Kind.{Kind}
+use Rattle.sm_agents.specs.declared.kinds.Side.{Side}
+use Rattle.sm_agents.specs.declared.kinds.Side.TheVariants.{Proposers, Reviewers}
+use Rattle.sm_agents.specs.Named.{SaidPair, SaidWeight, Said, names_of, entries_of, entries_of_masters, all_entries, agents_on, is_given_to}
 use Rattle.sm_reader.specs.declared.forms.Condition.{Condition}
 use Rattle.sm_reader.specs.declared.forms.Condition.TheVariants.{Force, Forbid}
 use Rattle.sm_reader.specs.Forms.{declares, weighs, binds}

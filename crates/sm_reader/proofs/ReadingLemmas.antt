@@ -6,9 +6,9 @@ use Rattle.sm_text.specs.Limits.{most_bytes}
 use Rattle.sm_text.specs.Lines.{lines, first_line, content}
 use Rattle.sm_text.specs.Tokens.{tokens}
 use Rattle.sm_text.specs.declared.refusal.RefusalKind.TheVariants.{TooLong, UnknownName}
-use Rattle.sm_instance.specs.declared.kinds.Kind.{Kind}
+use Rattle.sm_agents.specs.declared.kinds.Kind.{Kind}
 use Rattle.sm_instance.specs.declared.inputs.Input.{Input}
-use Rattle.sm_instance.specs.Named.{Said, nothing}
+use Rattle.sm_agents.specs.Named.{Said, nothing}
 use Rattle.sm_reader.specs.Judging.{by_verdict, verdict_on, goes, stops, Heading, passes, heads, by_heading, heading_of}
 use Rattle.sm_reader.specs.InstanceText.{ReadText, Refusal, before_header, behind_header, ended, input_of, instance_text, IsTextFault}
 use Rattle.sm_keys.specs.Tokens.{LeadsLines}

@@ -16,12 +16,12 @@ use Rattle.sm_text.specs.Name.{is_name}
 use Rattle.sm_text.specs.Numbers.{is_number, value_of, number_of, signed_of, negated}
 use Rattle.sm_text.specs.declared.refusal.RefusalKind.{RefusalKind}
 use Rattle.sm_text.specs.declared.refusal.RefusalKind.TheVariants.{BadByte, BadName, BadNumber, Redeclared, RepeatedEntry, RepeatedWeight, TooManyEntries}
-use Rattle.sm_instance.specs.Sound.{is_single}
-use Rattle.sm_instance.specs.declared.kinds.Kind.{Kind}
-use Rattle.sm_instance.specs.declared.kinds.Kind.TheVariants.{Marriage, Hospitals, Roommates}
-use Rattle.sm_instance.specs.declared.kinds.Side.{Side}
-use Rattle.sm_instance.specs.declared.kinds.Side.TheVariants.{Proposers, Reviewers}
-use Rattle.sm_instance.specs.Named.{SaidAgent, SaidWeight, SaidMaster, Said, nothing, names_of, master_names, entries_of, entries_of_masters, all_entries, entries_named, names_first, is_given_to}
+use Rattle.sm_agents.specs.Sound.{is_single}
+use Rattle.sm_agents.specs.declared.kinds.Kind.{Kind}
+use Rattle.sm_agents.specs.declared.kinds.Kind.TheVariants.{Marriage, Hospitals, Roommates}
+use Rattle.sm_agents.specs.declared.kinds.Side.{Side}
+use Rattle.sm_agents.specs.declared.kinds.Side.TheVariants.{Proposers, Reviewers}
+use Rattle.sm_agents.specs.Named.{SaidAgent, SaidWeight, SaidMaster, Said, nothing, names_of, master_names, entries_of, entries_of_masters, all_entries, entries_named, names_first, is_given_to}
 use Rattle.sm_reader.specs.declared.forms.Condition.{Condition}
 use Rattle.sm_reader.specs.declared.forms.Condition.TheVariants.{Force, Forbid}
 use Rattle.sm_reader.specs.Forms.{Form, declares, uses, shares, orders, weighs, binds, is_end, list_form, capacity_form, weight_form, pair_form, reviewer_form, two_sided_form, form_behind, master_form, use_form, capacity_use_form, reviewer_use_form, order_form, second_form, two_sided_added_form, added_form, form_under}

@@ -10,13 +10,13 @@ use Rattle.std.proofs.lemmas.List.Folds.{list_any_at, fold-map}
 use Rattle.std.proofs.Math.ListN.{get_or-append}
 use Rattle.sm_text.specs.Limits.{most_capacity, most_weight}
 use Rattle.sm_text.specs.Name.{is_name}
-use Rattle.sm_instance.specs.Written.{AgentData, no_agent, agent_at, weighed}
-use Rattle.sm_instance.specs.Sound.{AreSoundAgents, AreSoundEntries, IsPairOf, items_of, IsSoundItem, is_single, IsInstance, ArePersons, entries_of as entries_in}
+use Rattle.sm_agents.specs.Written.{AgentData, no_agent, agent_at, weighed}
+use Rattle.sm_agents.specs.Sound.{AreSoundAgents, AreSoundEntries, IsPairOf, items_of, IsSoundItem, is_single, IsInstance, ArePersons, entries_of as entries_in}
 use Rattle.sm_lists.specs.EachOnce.{IsEachOnce}
 use Rattle.sm_lists.specs.Pairs.{pair_at}
-use Rattle.sm_instance.specs.declared.kinds.Kind.{Kind}
-use Rattle.sm_instance.specs.declared.kinds.Kind.TheVariants.{Marriage, Hospitals, Roommates}
-use Rattle.sm_instance.specs.Named.{SaidAgent, SaidPair, SaidWeight, SaidOrder, Said, names_of, names_first, entries_of}
+use Rattle.sm_agents.specs.declared.kinds.Kind.{Kind}
+use Rattle.sm_agents.specs.declared.kinds.Kind.TheVariants.{Marriage, Hospitals, Roommates}
+use Rattle.sm_agents.specs.Named.{SaidAgent, SaidPair, SaidWeight, SaidOrder, Said, names_of, names_first, entries_of}
 use Rattle.sm_keys.specs.Tables.{has_repeated, is_unknown, number_in}
 use Rattle.sm_reader.specs.InstanceText.{lines_with_unknown, pairs_with_unknown, order_with_unknown, unknown_lines, listed_by_proposers, least, numbered, numbered_pair, full_order, two_sides}
 use Rattle.sm_reader.specs.Right.{IsRightAgent, IsRight}

@@ -6,9 +6,9 @@ use Rattle.sm_text.specs.Lines.{lines, content}
 use Rattle.sm_text.specs.Tokens.{tokens}
 use Rattle.sm_text.specs.declared.refusal.RefusalKind.TheVariants.{TooLong, UnknownName}
 use Rattle.sm_instance.specs.Inputs.{IsInput}
-use Rattle.sm_instance.specs.Named.{Said, nothing}
-use Rattle.sm_instance.specs.declared.kinds.Kind.{Kind}
-use Rattle.sm_instance.specs.declared.kinds.Kind.TheVariants.{Marriage, Hospitals, Roommates}
+use Rattle.sm_agents.specs.Named.{Said, nothing}
+use Rattle.sm_agents.specs.declared.kinds.Kind.{Kind}
+use Rattle.sm_agents.specs.declared.kinds.Kind.TheVariants.{Marriage, Hospitals, Roommates}
 use Rattle.sm_reader.specs.Forms.{has_two_sides}
 use Rattle.sm_reader.specs.Judging.{Verdict, goes, stops, refuses, verdict_on, by_verdict, Heading, passes, heads, faces, heading_of, by_heading}
 use Rattle.sm_reader.specs.InstanceText.{ReadText, Refusal, unknown_lines, least, input_of, ended, behind_header, before_header, instance_text}

@@ -7,11 +7,11 @@ use Rattle.indexmap.specs.IndexSet.{keys}
 use Rattle.sm_text.specs.Limits.{most_agents, most_entries}
 use Rattle.sm_text.specs.Name.{is_name}
 use Rattle.sm_text.specs.declared.refusal.RefusalKind.{RefusalKind}
-use Rattle.sm_instance.specs.declared.kinds.Kind.{Kind}
-use Rattle.sm_instance.specs.declared.kinds.Kind.TheVariants.{Marriage, Hospitals, Roommates}
-use Rattle.sm_instance.specs.declared.kinds.Side.{Side}
-use Rattle.sm_instance.specs.declared.kinds.Side.TheVariants.{Proposers, Reviewers}
-use Rattle.sm_instance.specs.Named.{SaidAgent, SaidPair, SaidWeight, SaidMaster, SaidOrder, Said, all_entries, entries_named}
+use Rattle.sm_agents.specs.declared.kinds.Kind.{Kind}
+use Rattle.sm_agents.specs.declared.kinds.Kind.TheVariants.{Marriage, Hospitals, Roommates}
+use Rattle.sm_agents.specs.declared.kinds.Side.{Side}
+use Rattle.sm_agents.specs.declared.kinds.Side.TheVariants.{Proposers, Reviewers}
+use Rattle.sm_agents.specs.Named.{SaidAgent, SaidPair, SaidWeight, SaidMaster, SaidOrder, Said, all_entries, entries_named}
 use Rattle.sm_reader.specs.Forms.{Form, declares, uses, shares, orders, weighs, binds}
 use Rattle.sm_reader.specs.Judging.{Verdict, goes, stops, refuses, first_fault, run_rows, name_rows, entry_rows, limit_rows, order_rows, weight_rows, capacity_in, weight_in, second_in, fault_of, with_agent, said_with, verdict_on}
 use Rattle.sm_keys.specs.Tables.{Table, text_at, AreBelow, Interns, Declares, IsListed}

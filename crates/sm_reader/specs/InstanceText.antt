@@ -7,12 +7,12 @@ use Rattle.sm_text.specs.Lines.{lines, content}
 use Rattle.sm_text.specs.Tokens.{tokens}
 use Rattle.sm_text.specs.declared.refusal.RefusalKind.{RefusalKind}
 use Rattle.sm_text.specs.declared.refusal.RefusalKind.TheVariants.{TooLong, BadHeader, MissingEnd, UnknownName}
-use Rattle.sm_instance.specs.Written.{AgentData, Written}
-use Rattle.sm_instance.specs.declared.kinds.Kind.{Kind}
-use Rattle.sm_instance.specs.declared.kinds.Kind.TheVariants.{Marriage, Hospitals, Roommates}
+use Rattle.sm_agents.specs.Written.{AgentData, Written}
+use Rattle.sm_agents.specs.declared.kinds.Kind.{Kind}
+use Rattle.sm_agents.specs.declared.kinds.Kind.TheVariants.{Marriage, Hospitals, Roommates}
 use Rattle.sm_instance.specs.declared.inputs.Input.{Input}
 use Rattle.sm_instance.specs.declared.inputs.Input.TheVariants.{Two, Room}
-use Rattle.sm_instance.specs.Named.{SaidAgent, SaidPair, SaidWeight, SaidOrder, Said, nothing, names_of, names_first}
+use Rattle.sm_agents.specs.Named.{SaidAgent, SaidPair, SaidWeight, SaidOrder, Said, nothing, names_of, names_first}
 use Rattle.sm_keys.specs.Tables.{is_unknown, number_in}
 use Rattle.sm_reader.specs.Judging.{verdict_on, by_verdict, heading_of, by_heading}
 use Rattle.sm_reader.specs.declared.reading.Read.{Read}

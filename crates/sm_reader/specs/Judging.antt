@@ -8,10 +8,10 @@ use Rattle.sm_text.specs.Name.{is_name}
 use Rattle.sm_text.specs.Numbers.{number_of, signed_of}
 use Rattle.sm_text.specs.declared.refusal.RefusalKind.{RefusalKind}
 use Rattle.sm_text.specs.declared.refusal.RefusalKind.TheVariants.{BadByte, BadHeader, BadLine, BadName, BadNumber, Redeclared, RepeatedEntry, RepeatedWeight, TooManyAgents, TooManyEntries}
-use Rattle.sm_instance.specs.declared.kinds.Kind.{Kind}
-use Rattle.sm_instance.specs.declared.kinds.Side.{Side}
-use Rattle.sm_instance.specs.declared.kinds.Side.TheVariants.{Proposers, Reviewers}
-use Rattle.sm_instance.specs.Named.{SaidAgent, SaidPair, SaidWeight, Said, names_of, master_names, agents_on, all_entries, entries_named, is_given_to}
+use Rattle.sm_agents.specs.declared.kinds.Kind.{Kind}
+use Rattle.sm_agents.specs.declared.kinds.Side.{Side}
+use Rattle.sm_agents.specs.declared.kinds.Side.TheVariants.{Proposers, Reviewers}
+use Rattle.sm_agents.specs.Named.{SaidAgent, SaidPair, SaidWeight, Said, names_of, master_names, agents_on, all_entries, entries_named, is_given_to}
 use Rattle.sm_keys.specs.Tables.{has_repeated}
 use Rattle.sm_reader.specs.declared.forms.Condition.{Condition}
 use Rattle.sm_reader.specs.declared.forms.Condition.TheVariants.{Force, Forbid}

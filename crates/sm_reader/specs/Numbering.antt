@@ -1,11 +1,11 @@
 -- What the numbering of names takes and gives.
 use Rattle.std.specs.Prelude.{if◌then◌else◌, ◌≡◌, ◌≢◌, ℕ, ◌+◌, ◌≤◌, length, map, Bool, List, Option, Some, None, Result, Ok, ℤ}
-use Rattle.sm_instance.specs.declared.kinds.Kind.{Kind}
-use Rattle.sm_instance.specs.declared.kinds.Kind.TheVariants.{Roommates}
-use Rattle.sm_instance.specs.declared.agents.Agent.{Agent}
-use Rattle.sm_instance.specs.declared.parts.Parts.{Parts}
-use Rattle.sm_instance.specs.Vectors.{agents_of}
-use Rattle.sm_instance.specs.Named.{SaidPair, SaidWeight, names_first}
+use Rattle.sm_agents.specs.declared.kinds.Kind.{Kind}
+use Rattle.sm_agents.specs.declared.kinds.Kind.TheVariants.{Roommates}
+use Rattle.sm_agents.specs.declared.agents.Agent.{Agent}
+use Rattle.sm_agents.specs.declared.parts.Parts.{Parts}
+use Rattle.sm_agents.specs.Vectors.{agents_of}
+use Rattle.sm_agents.specs.Named.{SaidPair, SaidWeight, names_first}
 use Rattle.sm_keys.specs.Tables.{number_in, Table}
 use Rattle.sm_reader.specs.InstanceText.{numbered, full_order, unknown_lines, least}
 use Rattle.sm_reader.specs.Draft.{IsDraft, said_of, agent_in, pair_in, given_in, order_of}

@@ -1,10 +1,10 @@
 -- The parts of the reading of a text.
 use Rattle.std.specs.Prelude.{◌≡◌, ℕ, ◌+◌, ◌≤◌, List, length, drop, Option, Some, None, Result, Err}
 use Rattle.sm_text.specs.Lines.{lines}
-use Rattle.sm_instance.specs.declared.kinds.Kind.{Kind}
+use Rattle.sm_agents.specs.declared.kinds.Kind.{Kind}
 use Rattle.sm_instance.specs.Inputs.{IsInput}
 use Rattle.sm_instance.specs.declared.inputs.Input.{Input}
-use Rattle.sm_instance.specs.Named.{nothing}
+use Rattle.sm_agents.specs.Named.{nothing}
 use Rattle.sm_reader.specs.Judging.{Heading, passes, heads, faces}
 use Rattle.sm_reader.specs.InstanceText.{ReadText, Refusal, before_header, behind_header, ended, unknown_lines, least, input_of}
 use Rattle.sm_reader.specs.Draft.{said_of}

@@ -3,9 +3,9 @@ use Rattle.std.specs.Prelude.{◌≡◌, ◌≢◌, ◌≤◌, Bool, true, false
 use Rattle.std.specs.Int.RustNames.{unsigned_abs}
 use Rattle.sm_text.specs.Limits.{most_agents, most_entries, most_capacity, most_weight}
 use Rattle.sm_text.specs.Name.{is_name}
-use Rattle.sm_instance.specs.Sound.{is_single}
-use Rattle.sm_instance.specs.declared.kinds.Kind.{Kind}
-use Rattle.sm_instance.specs.Named.{SaidAgent, SaidWeight, Said, names_of, names_first, all_entries, is_given_to}
+use Rattle.sm_agents.specs.Sound.{is_single}
+use Rattle.sm_agents.specs.declared.kinds.Kind.{Kind}
+use Rattle.sm_agents.specs.Named.{SaidAgent, SaidWeight, Said, names_of, names_first, all_entries, is_given_to}
 use Rattle.sm_keys.specs.Tables.{has_repeated}
 
 -- an agent has a name, a capacity within the limit, which is 1 where every agent of its side has a single place, and a list

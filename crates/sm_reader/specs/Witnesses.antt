@@ -4,11 +4,11 @@ use Rattle.std.specs.List.{flat_map}
 use Rattle.sm_text.specs.Lines.{LF}
 use Rattle.sm_text.specs.declared.refusal.RefusalKind.{RefusalKind}
 use Rattle.sm_text.specs.declared.refusal.RefusalKind.TheVariants.{BadByte, BadHeader, BadLine, BadName, BadNumber, Redeclared, RepeatedEntry, RepeatedWeight, TooLong, TooManyAgents, TooManyEntries, MissingEnd, UnknownName}
-use Rattle.sm_instance.specs.Written.{plain_written}
-use Rattle.sm_instance.specs.declared.kinds.Kind.TheVariants.{Marriage, Hospitals}
-use Rattle.sm_instance.specs.declared.kinds.Side.TheVariants.{Proposers, Reviewers}
+use Rattle.sm_agents.specs.Written.{plain_written}
+use Rattle.sm_agents.specs.declared.kinds.Kind.TheVariants.{Marriage, Hospitals}
+use Rattle.sm_agents.specs.declared.kinds.Side.TheVariants.{Proposers, Reviewers}
 use Rattle.sm_instance.specs.declared.inputs.Input.TheVariants.{Two, Room}
-use Rattle.sm_instance.specs.Named.{SaidAgent, Said, nothing}
+use Rattle.sm_agents.specs.Named.{SaidAgent, Said, nothing}
 use Rattle.sm_reader.specs.Forms.{declares}
 use Rattle.sm_reader.specs.Judging.{fault_of}
 use Rattle.sm_reader.specs.InstanceText.{instance_text}

@@ -4,8 +4,8 @@ ghost use Rattle.std.specs.Prelude.{◌≡◌, ℕ, ◌<◌, IfOk};
 ghost use Rattle.indexmap.specs.IndexSet.{keys};
 ghost use Rattle.sm_reader.specs.Draft.{said_of, IsDraft};
 ghost use Rattle.sm_keys.specs.Tables.{no_names};
-ghost use Rattle.sm_instance.specs.Named.{nothing};
-ghost use Rattle.sm_instance.specs.declared.kinds.Kind.{Kind};
+ghost use Rattle.sm_agents.specs.Named.{nothing};
+ghost use Rattle.sm_agents.specs.declared.kinds.Kind.{Kind};
 
 use indexmap::IndexSet;
 use sm_keys::Names;

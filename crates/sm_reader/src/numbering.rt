@@ -3,8 +3,8 @@
 ghost use Rattle.std.specs.Prelude.{◌≡◌, ◌<◌, ◌^◌, ◌||◌, ◌==◌, ◌++◌, ◌∷◌, [], if◌then◌else◌, ℕ, true, length, map, slice_index_or, false, IfOk};
 ghost use Rattle.std.specs.List.{list_any};
 ghost use Rattle.std.specs.Option.{option_map};
-ghost use Rattle.sm_instance.specs.Named.{names_first};
-ghost use Rattle.sm_instance.specs.Vectors.{agent_of, agents_of};
+ghost use Rattle.sm_agents.specs.Named.{names_first};
+ghost use Rattle.sm_agents.specs.Vectors.{agent_of, agents_of};
 ghost use Rattle.sm_reader.specs.InstanceText.{least, unknown_lines, lines_with_unknown, pairs_with_unknown, order_with_unknown, numbered, full_order};
 ghost use Rattle.sm_keys.specs.Tables.{is_unknown, number_in, text_at, AreBelow, AreInOrder};
 ghost use Rattle.sm_reader.specs.Draft.{said_of, listed_table, agent_in, pair_in, given_in, order_of, IsOrderBelow, AreAgentsBelow, IsPairBelow, ArePairsBelow, pairs_of};

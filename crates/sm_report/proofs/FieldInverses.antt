@@ -19,13 +19,13 @@ use Rattle.std.proofs.lemmas.List.Sums.{position_or_len_is, passes_at_first, spl
 use Rattle.std.proofs.lemmas.Option.{none-some, same_Some}
 use Rattle.sm_text.specs.Name.{is_name, is_name_byte, begins_name, is_digit}
 use Rattle.sm_text.specs.Numbers.{number_of}
-use Rattle.sm_instance.specs.Written.{AgentData, agent_at, names_of}
-use Rattle.sm_instance.specs.Sound.{AreSoundAgents}
+use Rattle.sm_agents.specs.Written.{AgentData, agent_at, names_of}
+use Rattle.sm_agents.specs.Sound.{AreSoundAgents}
 use Rattle.sm_instance.specs.Inputs.{IsInput, kind_of}
 use Rattle.sm_instance.specs.declared.inputs.Input.{Input}
 use Rattle.sm_instance.specs.declared.inputs.Input.TheVariants.{Two, Room}
-use Rattle.sm_instance.specs.declared.kinds.Kind.{Kind}
-use Rattle.sm_instance.specs.declared.kinds.Kind.TheVariants.{Marriage, Hospitals, Roommates}
+use Rattle.sm_agents.specs.declared.kinds.Kind.{Kind}
+use Rattle.sm_agents.specs.declared.kinds.Kind.TheVariants.{Marriage, Hospitals, Roommates}
 use Rattle.sm_report.specs.declared.lines.Seat.{Seat}
 use Rattle.sm_report.specs.Reasons.{reasons, IsReason, name_of_reason}
 use Rattle.sm_report.specs.Sound.{IsOnLeft, IsOnRight, IsSeatNumber, IsSmall, IsLarge, IsRotation, IsLimit, AreRotations}

@@ -1,8 +1,8 @@
 -- The first lines of answers as plain data.
 use Rattle.std.specs.Prelude.{ℕ, List as Vector, Option}
 use Rattle.std.specs.Option.{option_map}
-use Rattle.sm_instance.specs.declared.kinds.Side.{Side}
-use Rattle.sm_instance.specs.declared.kinds.Measure.{Measure}
+use Rattle.sm_agents.specs.declared.kinds.Side.{Side}
+use Rattle.sm_agents.specs.declared.kinds.Measure.{Measure}
 use Rattle.sm_report.specs.declared.heads.Head.{Head}
 use Rattle.sm_report.specs.declared.heads.Head.TheVariants as head
 

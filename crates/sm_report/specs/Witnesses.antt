@@ -1,10 +1,10 @@
 -- Lines of each kind with their texts by hand, in a marriage, in hospitals and in roommates.
 use Rattle.std.specs.Prelude.{◌≡◌, ℕ, List, [], ◌∷◌, map, Some, None, pos, negsuc, codes}
-use Rattle.sm_instance.specs.Written.{AgentData, plain_written}
-use Rattle.sm_instance.specs.declared.kinds.Kind.{Kind}
-use Rattle.sm_instance.specs.declared.kinds.Kind.TheVariants.{Marriage, Hospitals}
-use Rattle.sm_instance.specs.declared.kinds.Side.TheVariants.{Proposers, Reviewers}
-use Rattle.sm_instance.specs.declared.kinds.Measure.TheVariants.{Ranks, Given}
+use Rattle.sm_agents.specs.Written.{AgentData, plain_written}
+use Rattle.sm_agents.specs.declared.kinds.Kind.{Kind}
+use Rattle.sm_agents.specs.declared.kinds.Kind.TheVariants.{Marriage, Hospitals}
+use Rattle.sm_agents.specs.declared.kinds.Side.TheVariants.{Proposers, Reviewers}
+use Rattle.sm_agents.specs.declared.kinds.Measure.TheVariants.{Ranks, Given}
 use Rattle.sm_instance.specs.declared.inputs.Input.{Input}
 use Rattle.sm_instance.specs.declared.inputs.Input.TheVariants.{Two, Room}
 use Rattle.sm_report.specs.declared.lines.Seat.{Seat}

@@ -1,7 +1,7 @@
 -- The best stable matchings of the instance are those of the seats.
 use Rattle.std.proofs.Common.{◌≡◌, ℕ, ◌+◌, ◌≤◌, length, map, sym, ap, ◌∙◌, arith}
 use Rattle.std.specs.List.{range_with_len}
-use Rattle.sm_instance.specs.Written.{Written}
+use Rattle.sm_agents.specs.Written.{Written}
 use Rattle.sm_instance.specs.Matching.{standing as written_standing}
 use Rattle.sm_instance.specs.Stable.{IsProposersBest as IsWrittenProposersBest, IsReviewersBest as IsWrittenReviewersBest}
 use Rattle.sm_market.specs.Matching.{Places, standing}

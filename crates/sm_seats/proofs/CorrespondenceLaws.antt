@@ -1,10 +1,10 @@
 -- The seats of an instance correspond to it.
 use Rattle.std.proofs.Common.{ℕ, ◌<◌, length, ap, refl, arith}
 use Rattle.std.proofs.lemmas.List.{length-map}
-use Rattle.sm_instance.specs.Written.{Written, capacity_of}
+use Rattle.sm_agents.specs.Written.{Written, capacity_of}
 use Rattle.sm_instance.specs.Ranks.{pair_weight, pair_second}
-use Rattle.sm_instance.specs.Sound.{IsInstance}
-use Rattle.sm_instance.specs.Faults.{HasSoundEntries}
+use Rattle.sm_agents.specs.Sound.{IsInstance}
+use Rattle.sm_agents.specs.Faults.{HasSoundEntries}
 use Rattle.sm_theory.specs.Lattice.{with_proposers}
 use Rattle.sm_seats.specs.SeatMarket.{seat_market, seats_of, row_of_seat}
 use Rattle.sm_seats.specs.Seating.{seating_of}

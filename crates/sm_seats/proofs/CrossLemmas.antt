@@ -5,8 +5,8 @@ use Rattle.std.proofs.lemmas.Bool.{eq-eqb, ne_eqb, cases_eq}
 use Rattle.std.proofs.lemmas.List.{get_or_read}
 use Rattle.std.proofs.lemmas.List.Elements.{filter_more}
 use Rattle.sm_lists.specs.Rows.{place_on}
-use Rattle.sm_instance.specs.Written.{AgentData, row, entry, place_of}
-use Rattle.sm_instance.specs.Sound.{AreSoundEntries}
+use Rattle.sm_agents.specs.Written.{AgentData, row, entry, place_of}
+use Rattle.sm_agents.specs.Sound.{AreSoundEntries}
 use Rattle.sm_instance.specs.Crosses.{cross_place, AreCrossPlacesOf}
 use Rattle.sm_instance.proofs.PlaceLemmas.{place_of-entry}
 use Rattle.sm_instance.proofs.LoadLemmas.{test_cases}

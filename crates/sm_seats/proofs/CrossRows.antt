@@ -8,8 +8,8 @@ use Rattle.std.proofs.lemmas.List.FromFn.{get_or-range_with_len, length-range_wi
 use Rattle.sm_lists.specs.Rows.{place_on}
 use Rattle.sm_lists.proofs.PlaceLemmas.{get_or-place_on}
 use Rattle.sm_lists.proofs.RowLemmas.{row_in_range}
-use Rattle.sm_instance.specs.Written.{Written}
-use Rattle.sm_instance.specs.Faults.{HasSoundEntries}
+use Rattle.sm_agents.specs.Written.{Written}
+use Rattle.sm_agents.specs.Faults.{HasSoundEntries}
 use Rattle.sm_market.specs.Lists.{row, entry, place_of}
 use Rattle.sm_market.specs.Crosses.{AreCrosses}
 use Rattle.sm_seats.specs.Mutual.{mutual_row}

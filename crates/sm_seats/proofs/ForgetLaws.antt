@@ -5,8 +5,8 @@ use Rattle.std.proofs.lemmas.Option.{none-some, same_Some}
 use Rattle.sm_lists.specs.Rows.{place_on}
 use Rattle.sm_lists.proofs.Counting.{one_to_one-le, search_below, Decided-le}
 use Rattle.sm_lists.proofs.PlaceLemmas.{get_or-place_on}
-use Rattle.sm_instance.specs.Written.{Written, row as written_row, entry as written_entry, place_of as written_place_of}
-use Rattle.sm_instance.specs.Faults.{HasSoundEntries}
+use Rattle.sm_agents.specs.Written.{Written, row as written_row, entry as written_entry, place_of as written_place_of}
+use Rattle.sm_agents.specs.Faults.{HasSoundEntries}
 use Rattle.sm_instance.specs.Matching.{held, standing as written_standing, is_at, IsAssignment, IsMatching as IsWrittenMatching}
 use Rattle.sm_instance.specs.Stable.{Blocks, IsStable as IsWrittenStable}
 use Rattle.sm_instance.proofs.LoadLemmas.{test_cases, place_at, at_place}

@@ -1,8 +1,8 @@
 -- What is kept of the seats of an instance.
 use Rattle.std.proofs.Common.{◌≡◌, ℕ, ◌<◌, ◌^◌, List, length, get_or, sym, ap, ◌∙◌, arith}
 use Rattle.std.proofs.lemmas.List.{length-map, get_or_read}
-use Rattle.sm_instance.specs.Written.{AgentData, Written}
-use Rattle.sm_instance.specs.Sound.{IsInstance}
+use Rattle.sm_agents.specs.Written.{AgentData, Written}
+use Rattle.sm_agents.specs.Sound.{IsInstance}
 use Rattle.sm_instance.proofs.AcceptLemmas.{proposer_row_fits}
 use Rattle.sm_lists.specs.Rows.{place_on}
 use Rattle.sm_market.specs.Lists.{row, entry}

@@ -1,10 +1,10 @@
 -- Second weights that are 0.
 use Rattle.std.proofs.Common.{◌≡◌, ℕ, true, false, Option, Some, None, pos, refl, sym}
 use Rattle.std.proofs.lemmas.Bool.{false≢true}
-use Rattle.sm_instance.specs.Written.{Written, entry}
-use Rattle.sm_instance.proofs.NonzeroLemmas.{all_zero}
-use Rattle.sm_instance.specs.declared.kinds.Measure.{Measure}
-use Rattle.sm_instance.specs.declared.kinds.Measure.TheVariants.{Ranks, Given}
+use Rattle.sm_agents.specs.Written.{Written, entry}
+use Rattle.sm_agents.proofs.NonzeroLemmas.{all_zero}
+use Rattle.sm_agents.specs.declared.kinds.Measure.{Measure}
+use Rattle.sm_agents.specs.declared.kinds.Measure.TheVariants.{Ranks, Given}
 use Rattle.sm_seats.specs.Seating.{Seating}
 use Rattle.sm_seats.specs.Correspondence.{weights_by}
 use Rattle.sm_seats.specs.Levels.{has_two_levels, pair_second_by, seconds_by}

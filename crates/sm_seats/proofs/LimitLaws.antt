@@ -12,8 +12,8 @@ use Rattle.std.proofs.lemmas.List.FromFn.{get_or-range_with_len, length-range_wi
 use Rattle.sm_text.specs.Limits.{most_seat_entries}
 use Rattle.sm_instance.proofs.AcceptLemmas.{lt_true}
 use Rattle.sm_theory.proofs.Bridge.Places.{position_cases}
-use Rattle.sm_instance.specs.Written.{Written, row, capacity_of}
-use Rattle.sm_instance.specs.Faults.{HasSoundEntries}
+use Rattle.sm_agents.specs.Written.{Written, row, capacity_of}
+use Rattle.sm_agents.specs.Faults.{HasSoundEntries}
 use Rattle.sm_market.specs.Limits.{IsWithinLimits}
 use Rattle.sm_seats.specs.Mutual.{lists_back, mutual_row}
 use Rattle.sm_seats.specs.SeatMarket.{seat_count, seats_before, named_seats, seats_of, row_of_seat, seat_market}

@@ -5,11 +5,11 @@ use Rattle.std.proofs.lemmas.List.Sums.{sum-map, length-filter}
 use Rattle.std.proofs.lemmas.List.FromFn.{get_or-range_with_len, length-range_with_len}
 use Rattle.sm_lists.specs.Rows.{place_on}
 use Rattle.sm_lists.proofs.PlaceLemmas.{place_on-lt}
-use Rattle.sm_instance.specs.Written.{Written, entry, IsAcceptable}
-use Rattle.sm_instance.specs.Faults.{HasSoundEntries}
+use Rattle.sm_agents.specs.Written.{Written, entry, IsAcceptable}
+use Rattle.sm_agents.specs.Faults.{HasSoundEntries}
 use Rattle.sm_instance.specs.Matching.{held, is_at, load}
 use Rattle.sm_instance.proofs.LoadLemmas.{place_at}
-use Rattle.sm_instance.proofs.ListLemmas.{row_in_range}
+use Rattle.sm_agents.proofs.ListLemmas.{row_in_range}
 use Rattle.sm_seats.specs.Mutual.{mutual_row}
 use Rattle.sm_seats.specs.Taken.{seated}
 use Rattle.sm_seats.proofs.FilterLemmas.{kept, kept_passes, kept_order_back, AreDistinct, kept_distinct, length-filter-le, length-filter-lt, length-le}

@@ -2,9 +2,9 @@
 use Rattle.std.proofs.Common.{◌≡◌, ℕ, length, get_or, ap, ◌∙◌, arith}
 use Rattle.std.proofs.lemmas.List.FromFn.{length-map-range_with_len}
 use Rattle.sm_lists.specs.Rows.{place_on}
-use Rattle.sm_instance.specs.Written.{Written}
-use Rattle.sm_instance.specs.Faults.{HasSoundEntries}
-use Rattle.sm_instance.proofs.ListLemmas.{row_in_range}
+use Rattle.sm_agents.specs.Written.{Written}
+use Rattle.sm_agents.specs.Faults.{HasSoundEntries}
+use Rattle.sm_agents.proofs.ListLemmas.{row_in_range}
 use Rattle.sm_market.specs.Lists.{row, entry, place_of, AreMutual, IsMarket}
 use Rattle.sm_seats.specs.Mutual.{mutual_row}
 use Rattle.sm_seats.specs.SeatMarket.{seat_row, seat_market}

@@ -2,8 +2,8 @@
 use Rattle.std.proofs.Common.{◌≡◌, ℕ, ◌<◌, true, List, length, get_or, refl}
 use Rattle.sm_lists.specs.Rows.{place_on}
 use Rattle.sm_lists.proofs.PlaceLemmas.{place_on-lt, place_on_is}
-use Rattle.sm_instance.specs.Written.{AgentData, Written, row, place_of, IsAcceptable}
-use Rattle.sm_instance.specs.Sound.{AreSoundEntries}
+use Rattle.sm_agents.specs.Written.{AgentData, Written, row, place_of, IsAcceptable}
+use Rattle.sm_agents.specs.Sound.{AreSoundEntries}
 use Rattle.sm_instance.proofs.AcceptLemmas.{lt_true, true_lt}
 use Rattle.sm_seats.specs.Mutual.{lists_back, mutual_row}
 use Rattle.sm_seats.proofs.FilterLemmas.{kept, kept_passes, kept_order, kept_order_back, AreDistinct, kept_distinct}

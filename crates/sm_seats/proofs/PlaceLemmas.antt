@@ -6,8 +6,8 @@ use Rattle.std.proofs.lemmas.List.{get_or_past}
 use Rattle.std.proofs.lemmas.List.Elements.{All-get_or}
 use Rattle.std.proofs.lemmas.List.FromFn.{get_or-map-range_with_len, length-map-range_with_len}
 use Rattle.sm_lists.proofs.PlaceLemmas.{get_or-place_on}
-use Rattle.sm_instance.specs.Written.{Written, row as written_row, entry, IsAcceptable}
-use Rattle.sm_instance.specs.Sound.{IsInstance}
+use Rattle.sm_agents.specs.Written.{Written, row as written_row, entry, IsAcceptable}
+use Rattle.sm_agents.specs.Sound.{IsInstance}
 use Rattle.sm_market.specs.Lists.{Lists}
 use Rattle.sm_theory.specs.Weights.{weight_at}
 use Rattle.sm_seats.specs.Seating.{Seating, seating_of, at_places}

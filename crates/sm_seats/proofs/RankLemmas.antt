@@ -5,8 +5,8 @@ use Rattle.std.specs.Option.{IfSome}
 use Rattle.std.proofs.lemmas.Bool.Decides.{nat_tests}
 use Rattle.std.proofs.lemmas.List.{get_or_past, get_or_read, nil_from_length}
 use Rattle.sm_text.specs.Limits.{most_agents}
-use Rattle.sm_instance.specs.Written.{Written, row, entry, weighed, is_same_pair, weight_number, given_weight, second_weight, IsAcceptable}
-use Rattle.sm_instance.specs.Sound.{IsInstance}
+use Rattle.sm_agents.specs.Written.{Written, row, entry, weighed, is_same_pair, weight_number, given_weight, second_weight, IsAcceptable}
+use Rattle.sm_agents.specs.Sound.{IsInstance}
 use Rattle.sm_instance.specs.Crosses.{cross_place, AreCrossPlacesOf}
 use Rattle.sm_instance.specs.Ranks.{rank_back}
 use Rattle.sm_instance.proofs.AcceptLemmas.{cross_some, cross_fits, one_sided_at}

@@ -8,8 +8,8 @@ use Rattle.std.proofs.lemmas.List.Folds.{length-flat_map-take}
 use Rattle.std.proofs.lemmas.List.FromFn.{get_or-range_with_len, length-range_with_len, get_or-map-range_with_len, length-map-range_with_len}
 use Rattle.sm_lists.specs.Rows.{place_on}
 use Rattle.sm_lists.proofs.PlaceLemmas.{get_or-place_on, place_on_is}
-use Rattle.sm_instance.specs.Written.{AgentData, Written, no_agent, row as written_row, place_of as written_place}
-use Rattle.sm_instance.specs.Faults.{HasSoundEntries}
+use Rattle.sm_agents.specs.Written.{AgentData, Written, no_agent, row as written_row, place_of as written_place}
+use Rattle.sm_agents.specs.Faults.{HasSoundEntries}
 use Rattle.sm_market.specs.Lists.{row, entry, place_of}
 use Rattle.sm_seats.specs.Mutual.{lists_back, mutual_row}
 use Rattle.sm_seats.specs.SeatMarket.{seat_count, seats_before, seats_at, seat_row, seat_market}

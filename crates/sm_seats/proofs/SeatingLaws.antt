@@ -5,7 +5,7 @@ use Rattle.std.proofs.lemmas.List.{get_or_past}
 use Rattle.std.proofs.lemmas.List.FromFn.{get_or-map-range_with_len}
 use Rattle.sm_lists.proofs.PlaceLemmas.{get_or-place_on}
 use Rattle.sm_lists.proofs.RowLemmas.{row_in_range}
-use Rattle.sm_instance.specs.Written.{AgentData, Written, no_agent, row as written_row, entry as written_entry}
+use Rattle.sm_agents.specs.Written.{AgentData, Written, no_agent, row as written_row, entry as written_entry}
 use Rattle.sm_instance.specs.Matching.{held as written_held, standing as written_standing}
 use Rattle.sm_instance.specs.Stable.{IsStable as IsWrittenStable, IsProposersBest as IsWrittenProposersBest, IsReviewersBest as IsWrittenReviewersBest}
 use Rattle.sm_market.specs.Lists.{row, entry}

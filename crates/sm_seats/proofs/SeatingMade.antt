@@ -1,6 +1,6 @@
 -- A seating, from its parts.
 use Rattle.std.proofs.Common.{◌≡◌, ℕ, List, length, refl}
-use Rattle.sm_instance.specs.Written.{Written, lists_of}
+use Rattle.sm_agents.specs.Written.{Written, lists_of}
 use Rattle.sm_market.specs.Lists.{Lists, both_sides}
 use Rattle.sm_seats.specs.SeatMarket.{seats_of, seat_market}
 use Rattle.sm_seats.specs.Seating.{seating_of}

@@ -3,12 +3,12 @@ use Rattle.std.proofs.Common.{◌≡◌, ℕ, zero, suc, ◌≤◌, ◌⊎◌, i
 use Rattle.std.specs.List.{range_with_len}
 use Rattle.std.proofs.lemmas.Int.{ints}
 use Rattle.std.proofs.lemmas.List.{get_or_past}
-use Rattle.sm_instance.specs.Written.{Written}
+use Rattle.sm_agents.specs.Written.{Written}
 use Rattle.sm_instance.specs.Matching.{standing as written_standing}
 use Rattle.sm_instance.specs.Ranks.{weight_of as written_weight, second_of}
 use Rattle.sm_instance.specs.Lightest.{IsLightestByBoth}
-use Rattle.sm_instance.specs.declared.kinds.Measure.{Measure}
-use Rattle.sm_instance.specs.declared.kinds.Measure.TheVariants.{Ranks, Given}
+use Rattle.sm_agents.specs.declared.kinds.Measure.{Measure}
+use Rattle.sm_agents.specs.declared.kinds.Measure.TheVariants.{Ranks, Given}
 use Rattle.sm_market.specs.Lists.{Lists, row, agents, place_of}
 use Rattle.sm_market.specs.Matching.{Places, IsMatching, held, standing}
 use Rattle.sm_theory.specs.Rotations.{proposer_at, reviewer_at, target_at}

@@ -8,8 +8,8 @@ use Rattle.sm_lists.specs.Rows.{place_on}
 use Rattle.sm_lists.proofs.ResultLemmas.{same_bool}
 use Rattle.sm_lists.proofs.Counting.{lt_or_le}
 use Rattle.sm_lists.proofs.PlaceLemmas.{get_or-place_on, entry-place_of}
-use Rattle.sm_instance.specs.Written.{Written, row as written_row, place_of as written_place_of}
-use Rattle.sm_instance.specs.declared.kinds.Measure.{Measure}
+use Rattle.sm_agents.specs.Written.{Written, row as written_row, place_of as written_place_of}
+use Rattle.sm_agents.specs.declared.kinds.Measure.{Measure}
 use Rattle.sm_market.specs.Lists.{row, entry, place_of}
 use Rattle.sm_market.specs.Matching.{Places, held, IsMatching}
 use Rattle.sm_theory.specs.Rotations.{pair_of, proposer_at, is_moved, reviewer_before, reviewer_after, place_after, IsExposed, eliminated}

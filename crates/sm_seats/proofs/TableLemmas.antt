@@ -8,8 +8,8 @@ use Rattle.std.proofs.lemmas.List.FromFn.{get_or-map-range_with_len, length-map-
 use Rattle.std.specs.declared.alloc.Global.{Global}
 use Rattle.sm_lists.specs.Rows.{place_on, rows_of}
 use Rattle.sm_lists.specs.Rows.{row as table_row, entry as table_entry}
-use Rattle.sm_instance.specs.Written.{AgentData, Written, no_agent, row, entry, place_of, capacity_of}
-use Rattle.sm_instance.specs.Sound.{IsInstance}
+use Rattle.sm_agents.specs.Written.{AgentData, Written, no_agent, row, entry, place_of, capacity_of}
+use Rattle.sm_agents.specs.Sound.{IsInstance}
 use Rattle.std.proofs.lemmas.List.Sums.{length-filter, count_by-le-length}
 use Rattle.sm_instance.proofs.AcceptLemmas.{lt_true, proposer_row_fits}
 use Rattle.sm_seats.specs.Mutual.{lists_back, mutual_row}

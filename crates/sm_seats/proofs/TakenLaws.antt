@@ -7,8 +7,8 @@ use Rattle.std.proofs.lemmas.List.FromFn.{get_or-map-range_with_len, length-map-
 use Rattle.std.proofs.lemmas.Option.{none-some, same_Some}
 use Rattle.sm_lists.specs.Rows.{place_on}
 use Rattle.sm_lists.proofs.PlaceLemmas.{get_or-place_on, entry-place_of}
-use Rattle.sm_instance.specs.Written.{Written, row as written_row, entry as written_entry, place_of as written_place_of, capacity_of}
-use Rattle.sm_instance.specs.Faults.{HasSoundEntries}
+use Rattle.sm_agents.specs.Written.{Written, row as written_row, entry as written_entry, place_of as written_place_of, capacity_of}
+use Rattle.sm_agents.specs.Faults.{HasSoundEntries}
 use Rattle.sm_instance.specs.Matching.{held, standing as written_standing, is_at, load, IsMatching as IsWrittenMatching}
 use Rattle.sm_instance.specs.Stable.{HasWorse, IsStable as IsWrittenStable}
 use Rattle.sm_instance.proofs.LoadLemmas.{test_cases, place_at, at_place}

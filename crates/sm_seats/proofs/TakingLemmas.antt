@@ -6,8 +6,8 @@ use Rattle.std.proofs.lemmas.List.{get_or_past, get_or-set_same, get_or-set_othe
 use Rattle.std.proofs.lemmas.List.Elements.{filter_more}
 use Rattle.sm_lists.specs.Rows.{place_on, row as list_at}
 use Rattle.sm_lists.proofs.PlaceLemmas.{get_or-place_on}
-use Rattle.sm_instance.specs.Written.{Written, row as written_row, entry as written_entry, lists_of}
-use Rattle.sm_instance.specs.Faults.{HasSoundEntries}
+use Rattle.sm_agents.specs.Written.{Written, row as written_row, entry as written_entry, lists_of}
+use Rattle.sm_agents.specs.Faults.{HasSoundEntries}
 use Rattle.sm_instance.specs.Matching.{held, is_at, leads_to, IsAssignment, IsMatching}
 use Rattle.sm_instance.proofs.LoadLemmas.{at_place, test_cases}
 use Rattle.sm_market.specs.Lists.{Lists, row, place_of}
@@ -130,7 +130,7 @@ module _ {w : Written} (h : HasSoundEntries w) {places : List (Option ℕ)} (m :
         | inl same ↦
             let who = ap (λ k. get_or (mutual_row w.reviewers w.proposers r) k 0) same in
             let there' : written_entry w.proposers (get_or (mutual_row w.reviewers w.proposers r) j 0) i ≡ r = ap (λ y. written_entry w.proposers y i) (sym who) ∙ there in
-            let inside : get_or (mutual_row w.reviewers w.proposers r) j 0 < length after = (let both = mutual_at h places m.acceptable q r at in let here = Rattle.sm_instance.proofs.ListLemmas.row_in_range w.proposers _ _ both.lists in let long = f.long in omega arith) in
+            let inside : get_or (mutual_row w.reviewers w.proposers r) j 0 < length after = (let both = mutual_at h places m.acceptable q r at in let here = Rattle.sm_agents.proofs.ListLemmas.row_in_range w.proposers _ _ both.lists in let long = f.long in omega arith) in
             ap (held (set after (get_or (mutual_row w.reviewers w.proposers r) j 0) (Some (x + count)))) who
             ∙ get_or-set_same after (get_or (mutual_row w.reviewers w.proposers r) j 0) (Some (x + count)) None inside
             ∙ ap Some (place_sum r j count x on at f.counted place i there')

@@ -1,11 +1,11 @@
 -- What is allowed at the seats is what is allowed in the instance: vectors, listings, and matchings that are least.
 use Rattle.std.proofs.Common.{◌≡◌, ℕ, ◌≤◌, Bool, List, Option, sym, ap, ◌∙◌, subst}
 use Rattle.std.specs.Prelude.{◌≤ℤ◌}
-use Rattle.sm_instance.specs.Written.{Written}
+use Rattle.sm_agents.specs.Written.{Written}
 use Rattle.sm_instance.specs.Stable.{IsStable as IsWrittenStable}
 use Rattle.sm_instance.specs.Allowed.{IsAllowed as IsWrittenAllowed}
 use Rattle.sm_instance.specs.Ranks.{rank_vector_of, regret_of as written_regret, weight_of as written_weight}
-use Rattle.sm_instance.specs.declared.kinds.Measure.{Measure}
+use Rattle.sm_agents.specs.declared.kinds.Measure.{Measure}
 use Rattle.sm_market.specs.Matching.{Places}
 use Rattle.sm_market.specs.Stable.{IsStable}
 use Rattle.sm_theory.specs.Vectors.{IsAllowed, IsAllowedVector}

@@ -6,8 +6,8 @@ use Rattle.std.proofs.lemmas.List.{get_or_past, get_or-map, length-map}
 use Rattle.std.proofs.lemmas.Option.{none-some, same_Some}
 use Rattle.sm_lists.specs.Rows.{place_on}
 use Rattle.sm_lists.proofs.PlaceLemmas.{get_or-place_on}
-use Rattle.sm_instance.specs.Written.{AgentData, Written, no_agent, row as written_row, entry as written_entry, place_of as written_place_of}
-use Rattle.sm_instance.specs.Faults.{HasSoundEntries}
+use Rattle.sm_agents.specs.Written.{AgentData, Written, no_agent, row as written_row, entry as written_entry, place_of as written_place_of}
+use Rattle.sm_agents.specs.Faults.{HasSoundEntries}
 use Rattle.sm_instance.specs.Matching.{held, standing as written_standing, is_at}
 use Rattle.sm_instance.proofs.LoadLemmas.{place_at, at_place}
 use Rattle.sm_market.specs.Lists.{row, entry}

@@ -1,11 +1,11 @@
 -- How the stable matchings of a market of seats and those of its instance correspond.
 use Rattle.std.specs.Prelude.{◌≡◌, ℕ, ◌+◌, ◌<◌, ◌≤◌, ◌↔◌, IsTrue, ℤ, List, map, length, Option, Some, slice_index}
-use Rattle.sm_instance.specs.Written.{Written, place_of, capacity_of, lists_of}
+use Rattle.sm_agents.specs.Written.{Written, place_of, capacity_of, lists_of}
 use Rattle.sm_instance.specs.Matching.{is_at, IsMatching as IsWrittenMatching}
 use Rattle.sm_instance.specs.Stable.{IsStable as IsWrittenStable}
 use Rattle.sm_instance.specs.Ranks.{rank_vector_of, worse_rank, regret_of as written_regret, pair_weight, weight_of as written_weight, pair_second, second_weight_of}
 use Rattle.sm_instance.specs.Allowed.{IsAllowed as IsWrittenAllowed}
-use Rattle.sm_instance.specs.declared.kinds.Measure.{Measure}
+use Rattle.sm_agents.specs.declared.kinds.Measure.{Measure}
 use Rattle.sm_market.specs.Lists.{row, entry, agents, IsMarket}
 use Rattle.sm_market.specs.Matching.{Places, IsMatching}
 use Rattle.sm_market.specs.Stable.{IsStable}

@@ -1,7 +1,7 @@
 -- What is counted of the seats of an instance.
 use Rattle.std.specs.Prelude.{◌≡◌, ℕ, ◌+◌, List, map, length}
 use Rattle.std.specs.List.{range_with_len}
-use Rattle.sm_instance.specs.Written.{Written}
+use Rattle.sm_agents.specs.Written.{Written}
 use Rattle.sm_seats.specs.Mutual.{mutual_row}
 use Rattle.sm_seats.specs.SeatMarket.{seats_before}
 use Rattle.sm_seats.specs.SeatEntries.{seat_entries_before}

@@ -1,7 +1,7 @@
 -- The laws of seats that the crates above stand on. Each is the contract of a function of `laws`.
 use Rattle.std.specs.Prelude.{◌↔◌}
-use Rattle.sm_instance.specs.Written.{Written}
-use Rattle.sm_instance.specs.Sound.{IsInstance}
+use Rattle.sm_agents.specs.Written.{Written}
+use Rattle.sm_agents.specs.Sound.{IsInstance}
 use Rattle.sm_instance.specs.Stable.{IsProposersBest as IsWrittenProposersBest, IsReviewersBest as IsWrittenReviewersBest}
 use Rattle.sm_market.specs.Limits.{IsWithinLimits}
 use Rattle.sm_market.specs.Matching.{Places}

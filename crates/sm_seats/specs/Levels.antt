@@ -1,10 +1,11 @@
 -- The second weights of the places of seats, and whether an answer has two levels of weights.
 use Rattle.std.specs.Prelude.{ℕ, not, Bool, false, List, Option, ℤ, pos}
 use Rattle.std.specs.List.{list_any}
-use Rattle.sm_instance.specs.Written.{Written}
-use Rattle.sm_instance.specs.Ranks.{is_zero, pair_second}
-use Rattle.sm_instance.specs.declared.kinds.Measure.{Measure}
-use Rattle.sm_instance.specs.declared.kinds.Measure.TheVariants.{Ranks, Given}
+use Rattle.sm_agents.specs.Written.{Written}
+use Rattle.sm_agents.specs.Nonzero.{is_zero}
+use Rattle.sm_instance.specs.Ranks.{pair_second}
+use Rattle.sm_agents.specs.declared.kinds.Measure.{Measure}
+use Rattle.sm_agents.specs.declared.kinds.Measure.TheVariants.{Ranks, Given}
 use Rattle.sm_seats.specs.Seating.{Seating}
 use Rattle.sm_seats.specs.Correspondence.{weights_by}
 

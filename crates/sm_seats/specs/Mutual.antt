@@ -1,6 +1,6 @@
 -- Lists without inert entries.
 use Rattle.std.specs.Prelude.{ℕ, Bool, nat_lt, List, filter, length}
-use Rattle.sm_instance.specs.Written.{AgentData, row, place_of}
+use Rattle.sm_agents.specs.Written.{AgentData, row, place_of}
 
 -- b lists a
 abbrev pub lists_back : List AgentData → ℕ → ℕ → Bool

@@ -2,10 +2,10 @@
 use Rattle.std.specs.Prelude.{ℕ, ◌+◌, ◌<◌, ◌≤◌, Bool, true, false, List, ℤ, pos, length, All, Option, Some, None}
 use Rattle.std.specs.Int.RustNames.{unsigned_abs}
 use Rattle.sm_text.specs.Limits.{most_weight}
-use Rattle.sm_instance.specs.Written.{Written, entry as written_entry, IsAcceptable}
+use Rattle.sm_agents.specs.Written.{Written, entry as written_entry, IsAcceptable}
 use Rattle.sm_instance.specs.Crosses.{AreCrossesOf}
 use Rattle.sm_instance.specs.Ranks.{pair_weight, pair_second}
-use Rattle.sm_instance.specs.declared.kinds.Measure.TheVariants as measure
+use Rattle.sm_agents.specs.declared.kinds.Measure.TheVariants as measure
 use Rattle.sm_market.specs.Lists.{row}
 use Rattle.sm_seats.specs.Seating.{Seating, written_place}
 use Rattle.sm_seats.specs.declared.place_weights.Weighing.{Weighing}

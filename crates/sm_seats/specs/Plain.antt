@@ -1,6 +1,6 @@
 -- Instances whose market of seats has the lists that are written.
 use Rattle.std.specs.Prelude.{◌≡◌, ℕ, ◌<◌, List, map, length, Option, unwrap_or}
-use Rattle.sm_instance.specs.Written.{Written, row}
+use Rattle.sm_agents.specs.Written.{Written, row}
 use Rattle.sm_seats.specs.Mutual.{mutual_row}
 use Rattle.sm_seats.specs.SeatMarket.{seat_count}
 

@@ -1,7 +1,7 @@
 -- The lists of the first n proposers: of seats and of cross places.
 use Rattle.std.specs.Prelude.{ℕ, List, map}
 use Rattle.std.specs.List.{range_with_len}
-use Rattle.sm_instance.specs.Written.{Written}
+use Rattle.sm_agents.specs.Written.{Written}
 use Rattle.sm_seats.specs.SeatMarket.{seat_row}
 use Rattle.sm_seats.specs.Tables.{cross_row}
 

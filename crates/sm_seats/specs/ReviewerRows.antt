@@ -1,7 +1,7 @@
 -- The lists of the seats of the first n reviewers, and their cross places.
 use Rattle.std.specs.Prelude.{ℕ, List}
 use Rattle.std.specs.List.{flat_map, range_with_len}
-use Rattle.sm_instance.specs.Written.{Written}
+use Rattle.sm_agents.specs.Written.{Written}
 use Rattle.sm_seats.specs.Tables.{lists_for, crosses_for}
 
 -- the lists of the seats of the first n reviewers

@@ -2,7 +2,7 @@
 use Rattle.std.specs.Prelude.{ℕ, ◌+◌, ◌*◌, ◌<◌, ◌≤◌, nat_lt, Option, position, length}
 use Rattle.std.specs.List.{range_with_len, sum_by}
 use Rattle.sm_text.specs.Limits.{most_seat_entries}
-use Rattle.sm_instance.specs.Written.{Written}
+use Rattle.sm_agents.specs.Written.{Written}
 use Rattle.sm_seats.specs.Mutual.{mutual_row}
 use Rattle.sm_seats.specs.SeatMarket.{seat_count}
 use Rattle.sm_seats.specs.declared.faults.SeatsFault.{SeatsFault}

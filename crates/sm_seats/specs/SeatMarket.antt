@@ -2,7 +2,7 @@
 -- the order of the reviewers, and those of one reviewer from 1 on.
 use Rattle.std.specs.Prelude.{ℕ, List, map, length, min}
 use Rattle.std.specs.List.{flat_map, range_with_len, sum_by}
-use Rattle.sm_instance.specs.Written.{Written, capacity_of}
+use Rattle.sm_agents.specs.Written.{Written, capacity_of}
 use Rattle.sm_market.specs.Lists.{Lists}
 use Rattle.sm_seats.specs.Mutual.{mutual_row}
 

@@ -2,7 +2,7 @@
 use Rattle.std.specs.Prelude.{ℕ, ◌+◌, List, [], ◌∷◌, ◌++◌, map, length, Option, slice_index_or}
 use Rattle.std.specs.List.{range_with_len}
 use Rattle.std.specs.Option.{option_map}
-use Rattle.sm_instance.specs.Written.{Written, lists_of}
+use Rattle.sm_agents.specs.Written.{Written, lists_of}
 use Rattle.sm_market.specs.Lists.{Lists, row, entry, place_of, agents}
 use Rattle.sm_market.specs.Matching.{held}
 use Rattle.sm_seats.specs.SeatMarket.{seat_market, seats_of}

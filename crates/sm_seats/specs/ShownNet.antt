@@ -2,8 +2,8 @@
 -- them moves to a seat of which reviewer, and from a seat of which one.
 use Rattle.std.specs.Prelude.{ℕ, suc, ◌==◌, if◌then◌else◌, Bool, false, not, ◌&&◌, ◌||◌, List, length, Option, None, Some, ℤ}
 use Rattle.std.specs.List.{position_or_len, list_any}
-use Rattle.sm_instance.specs.Written.{Written}
-use Rattle.sm_instance.specs.declared.kinds.Measure.{Measure}
+use Rattle.sm_agents.specs.Written.{Written}
+use Rattle.sm_agents.specs.declared.kinds.Measure.{Measure}
 use Rattle.sm_market.specs.Lists.{entry}
 use Rattle.sm_market.specs.Matching.{Places, held}
 use Rattle.sm_theory.specs.Rotations.{is_moved, reviewer_before, reviewer_after}

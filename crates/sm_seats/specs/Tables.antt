@@ -2,7 +2,7 @@
 use Rattle.std.specs.Prelude.{ℕ, ◌+◌, [], List, map, length, take, filter, replicate, nat_eq, cond}
 use Rattle.std.specs.List.{flat_map, range_with_len}
 use Rattle.sm_lists.specs.Rows.{place_on}
-use Rattle.sm_instance.specs.Written.{Written, row, place_of}
+use Rattle.sm_agents.specs.Written.{Written, row, place_of}
 use Rattle.sm_seats.specs.Mutual.{lists_back, mutual_row}
 use Rattle.sm_seats.specs.SeatMarket.{seat_count, seats_at}
 use Rattle.sm_seats.specs.Counted.{acceptable_at}

@@ -1,6 +1,6 @@
 -- On the way to the places that a matching takes.
 use Rattle.std.specs.Prelude.{◌≡◌, ℕ, ◌<◌, ◌≤◌, false, List, filter, take, length, Option, None, Some, slice_index}
-use Rattle.sm_instance.specs.Written.{Written, entry}
+use Rattle.sm_agents.specs.Written.{Written, entry}
 use Rattle.sm_instance.specs.Matching.{held, is_at}
 use Rattle.sm_seats.specs.Mutual.{mutual_row}
 use Rattle.sm_seats.specs.SeatMarket.{seats_before}

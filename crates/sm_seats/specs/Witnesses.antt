@@ -1,10 +1,10 @@
 -- Small instances whose seats are known by hand, so that the definitions mean what they should.
 use Rattle.std.specs.Prelude.{◌≡◌, [], ◌∷◌, None, Some, replicate}
 use Rattle.std.specs.List.{range_with_len}
-use Rattle.sm_instance.specs.Written.{Written, plain_written}
+use Rattle.sm_agents.specs.Written.{Written, plain_written}
 use Rattle.sm_instance.specs.Ranks.{rank_vector_of}
 use Rattle.sm_instance.specs.Witnesses.{agent, small_hospitals, settled, inert_entry}
-use Rattle.sm_instance.specs.declared.kinds.Kind.TheVariants.{Hospitals}
+use Rattle.sm_agents.specs.declared.kinds.Kind.TheVariants.{Hospitals}
 use Rattle.sm_market.specs.Lists.{IsMarket}
 use Rattle.sm_market.specs.Matching.{Places}
 use Rattle.sm_market.specs.Stable.{IsStable}

@@ -1,7 +1,7 @@
 //! How many seats each reviewer has, and where they begin.
 
 ghost use Rattle.std.specs.Prelude.{◌≡◌, ◌<◌, ◌≤◌, length, IfOk, IfErr, OnOk, IsTrue, MatchOption};
-ghost use Rattle.sm_instance.specs.Sound.{IsInstance};
+ghost use Rattle.sm_agents.specs.Sound.{IsInstance};
 ghost use Rattle.sm_seats.specs.SeatMarket.{seat_count};
 ghost use Rattle.sm_seats.specs.Counted.{AreSeatCounts, first_seats_of};
 ghost use Rattle.sm_seats.specs.SeatEntries.{AreFewSeats, IsFirstTooMany, IsSeatsFault};

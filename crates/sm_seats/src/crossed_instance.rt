@@ -2,8 +2,8 @@
 
 ghost use Rattle.std.specs.Prelude.{◌≡◌, ◌<◌, ◌≤◌, length};
 ghost use Rattle.sm_text.specs.Limits.{most_agents, most_capacity};
-ghost use Rattle.sm_instance.specs.Sound.{IsInstance};
-ghost use Rattle.sm_instance.specs.Written.{row, capacity_of};
+ghost use Rattle.sm_agents.specs.Sound.{IsInstance};
+ghost use Rattle.sm_agents.specs.Written.{row, capacity_of};
 ghost use Rattle.sm_instance.specs.Crosses.{AreCrossPlacesOf, AreCrossesOf};
 
 use sm_instance::{Cross, Crosses, Instance};
@@ -17,7 +17,7 @@ pub(crate) struct CrossedInstance<'a> {
 }
 
 impl<'a> Model for CrossedInstance<'a> {
-    ghost use Rattle.sm_instance.specs.Written.{Written};
+    ghost use Rattle.sm_agents.specs.Written.{Written};
     ghost use Rattle.sm_instance.specs.Crosses.{AreCrossesOf};
 
     ghost Value = { Written };

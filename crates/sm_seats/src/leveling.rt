@@ -1,9 +1,9 @@
 //! Conditions by levels.
 
 ghost use Rattle.std.specs.Prelude.{◌≡◌, ℕ, ◌+◌, ◌<◌, length, IfOk};
-ghost use Rattle.sm_instance.specs.Sound.{IsPairOf};
+ghost use Rattle.sm_agents.specs.Sound.{IsPairOf};
 ghost use Rattle.sm_lists.specs.Pairs.{pair_at};
-ghost use Rattle.sm_instance.specs.Written.{place_of};
+ghost use Rattle.sm_agents.specs.Written.{place_of};
 ghost use Rattle.sm_seats.specs.Correspondence.{leveled};
 
 use sm_instance::Instance;

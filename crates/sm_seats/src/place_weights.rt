@@ -2,7 +2,7 @@
 
 ghost use Rattle.std.specs.Prelude.{◌≡◌, ◌<◌, All, length, pos, IfOk, IfSome, Some};
 ghost use Rattle.sm_text.specs.Limits.{most_agents};
-ghost use Rattle.sm_instance.specs.Written.{row as written_row, entry, IsAcceptable};
+ghost use Rattle.sm_agents.specs.Written.{row as written_row, entry, IsAcceptable};
 ghost use Rattle.sm_instance.specs.Ranks.{pair_weight};
 ghost use Rattle.sm_instance.specs.Crosses.{AreCrossesOf};
 ghost use Rattle.sm_market.specs.Lists.{row as market_row};

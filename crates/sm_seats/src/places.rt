@@ -1,8 +1,8 @@
 //! Places on written lists, turned into places on the lists of the market of seats.
 
 ghost use Rattle.std.specs.Prelude.{◌≡◌, ◌<◌, length, IfOk, OnOk};
-ghost use Rattle.sm_instance.specs.Sound.{IsInstance};
-ghost use Rattle.sm_instance.specs.Written.{row};
+ghost use Rattle.sm_agents.specs.Sound.{IsInstance};
+ghost use Rattle.sm_agents.specs.Written.{row};
 ghost use Rattle.sm_seats.specs.Tables.{mutual_before, mutual_places_at, inert_places_at, inert_places_of, seat_places_at, seat_places_of};
 ghost use Rattle.sm_seats.specs.Counted.{acceptable_of, acceptable_at, first_seats_of};
 

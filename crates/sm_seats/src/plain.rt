@@ -3,8 +3,8 @@
 
 ghost use Rattle.std.specs.Prelude.{◌≡◌, ℕ, ◌<◌, ◌≤◌, ◌↔◌, length, IfOk, OnOk, IsTrue};
 ghost use Rattle.sm_text.specs.Limits.{most_agents};
-ghost use Rattle.sm_instance.specs.Sound.{IsInstance};
-ghost use Rattle.sm_instance.specs.Written.{row, lists_of};
+ghost use Rattle.sm_agents.specs.Sound.{IsInstance};
+ghost use Rattle.sm_agents.specs.Written.{row, lists_of};
 ghost use Rattle.sm_seats.specs.Mutual.{mutual_row};
 ghost use Rattle.sm_seats.specs.SeatMarket.{seats_of};
 ghost use Rattle.sm_seats.specs.Counted.{acceptable_of, first_seats_of};

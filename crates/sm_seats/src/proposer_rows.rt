@@ -1,7 +1,7 @@
 //! The proposers' lists of seats.
 
 ghost use Rattle.std.specs.Prelude.{◌≡◌, ◌+◌, ◌<◌, ◌≤◌, ◌++◌, length, take, replicate, IfOk, OnOk};
-ghost use Rattle.sm_instance.specs.Written.{row};
+ghost use Rattle.sm_agents.specs.Written.{row};
 ghost use Rattle.sm_seats.specs.Tables.{inert_places_of, seats_listed, seat_places_of, cross_row};
 ghost use Rattle.sm_seats.specs.Counted.{seat_numbers_of, first_seats_of};
 ghost use Rattle.sm_seats.specs.SeatMarket.{seat_row};

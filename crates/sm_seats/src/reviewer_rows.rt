@@ -3,7 +3,7 @@
 ghost use Rattle.std.specs.Prelude.{◌≡◌, ℕ, ◌+◌, ◌-◌, ◌<◌, ◌≤◌, ◌^◌, ◌++◌, length, map, replicate, slice_index, IfOk, OnOk};
 ghost use Rattle.std.specs.List.{range_with_len};
 ghost use Rattle.sm_text.specs.Limits.{most_capacity};
-ghost use Rattle.sm_instance.specs.Sound.{IsInstance};
+ghost use Rattle.sm_agents.specs.Sound.{IsInstance};
 ghost use Rattle.sm_seats.specs.Mutual.{mutual_row};
 ghost use Rattle.sm_seats.specs.SeatMarket.{seats_of};
 ghost use Rattle.sm_seats.specs.Tables.{seat_places_of, begin_of};

@@ -1,8 +1,8 @@
 //! Seats, and matchings of them.
 
 ghost use Rattle.std.specs.Prelude.{◌≡◌, ◌+◌, ◌<◌, length, slice_index_or, unwrap_or, IfOk, IfErr, OnOk};
-ghost use Rattle.sm_instance.specs.Written.{Written, lists_of};
-ghost use Rattle.sm_instance.specs.Sound.{IsInstance};
+ghost use Rattle.sm_agents.specs.Written.{Written, lists_of};
+ghost use Rattle.sm_agents.specs.Sound.{IsInstance};
 ghost use Rattle.std.specs.Option.{option_map};
 ghost use Rattle.sm_instance.specs.Matching.{IsMatching};
 ghost use Rattle.sm_market.specs.Lists.{row};

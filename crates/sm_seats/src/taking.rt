@@ -1,8 +1,8 @@
 //! The seats that an assignment takes.
 
 ghost use Rattle.std.specs.Prelude.{◌≡◌, ℕ, ◌+◌, ◌<◌, ◌≤◌, false, length, replicate, None, IfOk};
-ghost use Rattle.sm_instance.specs.Written.{Written, lists_of};
-ghost use Rattle.sm_instance.specs.Sound.{IsInstance};
+ghost use Rattle.sm_agents.specs.Written.{Written, lists_of};
+ghost use Rattle.sm_agents.specs.Sound.{IsInstance};
 ghost use Rattle.sm_instance.specs.Matching.{held, is_at as is_written_at, IsAssignment, IsMatching};
 ghost use Rattle.sm_market.specs.Limits.{IsWithinLimits};
 ghost use Rattle.sm_seats.specs.SeatMarket.{seats_before, seat_count, seats_of, seat_market};

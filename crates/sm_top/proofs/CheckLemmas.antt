@@ -7,7 +7,7 @@ use Rattle.sm_answer.specs.Printing.{IsShown}
 use Rattle.sm_answer.proofs.AnswerLemmas.{one_all}
 use Rattle.sm_text.specs.declared.refusal.RefusalKind.TheVariants.{TooManySeats, BadAnswer}
 use Rattle.sm_instance.specs.Inputs.{right_of}
-use Rattle.sm_instance.specs.Written.{agent_at}
+use Rattle.sm_agents.specs.Written.{agent_at}
 use Rattle.sm_instance.specs.declared.inputs.Input.{Input}
 use Rattle.sm_instance.specs.declared.inputs.Input.TheVariants.{Two, Room}
 use Rattle.sm_reader.specs.InstanceText.{ReadText, Refusal}

@@ -3,16 +3,16 @@ use Rattle.std.proofs.Common.{◌≡◌, ◌≢◌, ℕ, cond, not, Bool, true, 
 use Rattle.std.specs.Option.{unwrap_or}
 use Rattle.sm_answer.specs.Printing.{IsShown}
 use Rattle.sm_text.specs.declared.refusal.RefusalKind.TheVariants.{WrongKind}
-use Rattle.sm_instance.specs.Written.{AgentData, Written}
+use Rattle.sm_agents.specs.Written.{AgentData, Written}
 use Rattle.sm_instance.specs.Inputs.{kind_of}
 use Rattle.sm_instance.specs.declared.inputs.Input.{Input}
 use Rattle.sm_instance.specs.declared.inputs.Input.TheVariants.{Two, Room}
-use Rattle.sm_instance.specs.declared.kinds.Kind.{Kind}
-use Rattle.sm_instance.specs.declared.kinds.Kind.TheVariants.{Marriage, Hospitals, Roommates}
+use Rattle.sm_agents.specs.declared.kinds.Kind.{Kind}
+use Rattle.sm_agents.specs.declared.kinds.Kind.TheVariants.{Marriage, Hospitals, Roommates}
 use Rattle.sm_answer_weight.specs.WeightAnswer.{IsWeightAnswer}
-use Rattle.sm_instance.specs.declared.kinds.Measure.{Measure}
-use Rattle.sm_instance.specs.declared.kinds.Side.{Side}
-use Rattle.sm_instance.specs.declared.kinds.Side.TheVariants.{Proposers}
+use Rattle.sm_agents.specs.declared.kinds.Measure.{Measure}
+use Rattle.sm_agents.specs.declared.kinds.Side.{Side}
+use Rattle.sm_agents.specs.declared.kinds.Side.TheVariants.{Proposers}
 use Rattle.sm_reader.specs.InstanceText.{ReadText, Refusal}
 use Rattle.sm_words.specs.declared.jobs.Form.{Form}
 use Rattle.sm_words.specs.declared.jobs.Form.TheVariants.{Text}

@@ -7,9 +7,9 @@ use Rattle.std.proofs.lemmas.List.Sums.{sum_by-le}
 use Rattle.std.proofs.lemmas.List.FromFn.{get_or-range_with_len, length-range_with_len, length-map-range_with_len}
 use Rattle.sm_text.specs.Limits.{most_seat_entries}
 use Rattle.sm_text.specs.declared.refusal.RefusalKind.TheVariants.{TooManySeats}
-use Rattle.sm_instance.specs.Written.{AgentData, Written, plain_written, agent_at, row, capacity_of}
-use Rattle.sm_instance.specs.declared.kinds.Kind.{Kind}
-use Rattle.sm_instance.specs.declared.kinds.Kind.TheVariants.{Marriage, Hospitals}
+use Rattle.sm_agents.specs.Written.{AgentData, Written, plain_written, agent_at, row, capacity_of}
+use Rattle.sm_agents.specs.declared.kinds.Kind.{Kind}
+use Rattle.sm_agents.specs.declared.kinds.Kind.TheVariants.{Marriage, Hospitals}
 use Rattle.sm_instance.specs.declared.inputs.Input.TheVariants.{Two}
 use Rattle.sm_make.specs.Words.{words, of_seed}
 use Rattle.sm_make.specs.Lists.{in_turn, copy_list, copy_list_back, turn_from, shuffled_list}

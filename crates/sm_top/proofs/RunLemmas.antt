@@ -9,11 +9,11 @@ use Rattle.sm_io.proofs.SinkLemmas.{Grows-nil}
 use Rattle.sm_answer.specs.Printing.{IsShown}
 use Rattle.sm_json.specs.JsonText.{text_in}
 use Rattle.sm_text.specs.declared.refusal.RefusalKind.TheVariants.{TooLong, BadJson, NotStable}
-use Rattle.sm_instance.specs.Written.{AgentData, Written}
+use Rattle.sm_agents.specs.Written.{AgentData, Written}
 use Rattle.sm_instance.specs.declared.inputs.Input.{Input}
 use Rattle.sm_instance.specs.declared.inputs.Input.TheVariants.{Two, Room}
-use Rattle.sm_instance.specs.declared.kinds.Measure.{Measure}
-use Rattle.sm_instance.specs.declared.kinds.Side.{Side}
+use Rattle.sm_agents.specs.declared.kinds.Measure.{Measure}
+use Rattle.sm_agents.specs.declared.kinds.Side.{Side}
 use Rattle.sm_reader.specs.InstanceText.{ReadText, instance_text}
 use Rattle.sm_report.specs.Lines.{LineData}
 use Rattle.sm_words.specs.declared.jobs.Form.{Form}

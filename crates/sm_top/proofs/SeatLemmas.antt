@@ -3,9 +3,9 @@ use Rattle.std.proofs.Common.{◌≡◌, ℕ, ◌<◌, arith, length, List, Some
 use Rattle.std.specs.Option.{option_map}
 use Rattle.sm_text.specs.declared.refusal.RefusalKind.TheVariants.{TooManySeats}
 use Rattle.std.proofs.lemmas.List.{get_or-map, length-map}
-use Rattle.sm_instance.specs.declared.agents.Agent.{Agent}
-use Rattle.sm_instance.specs.Vectors.{agents_of, agent_of}
-use Rattle.sm_instance.specs.Written.{AgentData, Written, no_agent, agent_at}
+use Rattle.sm_agents.specs.declared.agents.Agent.{Agent}
+use Rattle.sm_agents.specs.Vectors.{agents_of, agent_of}
+use Rattle.sm_agents.specs.Written.{AgentData, Written, no_agent, agent_at}
 use Rattle.sm_instance.specs.declared.inputs.Input.TheVariants.{Two}
 use Rattle.sm_seats.specs.SeatEntries.{IsFirstTooMany}
 use Rattle.sm_seats.proofs.LimitLaws.{first_too_many-some}

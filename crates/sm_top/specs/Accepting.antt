@@ -5,7 +5,7 @@ use Rattle.sm_text.specs.Lines.{lines, content}
 use Rattle.sm_text.specs.Tokens.{tokens}
 use Rattle.sm_text.specs.declared.refusal.RefusalKind.{RefusalKind}
 use Rattle.sm_text.specs.declared.refusal.RefusalKind.TheVariants.{AfterEnd, TooManySeats, WrongKind}
-use Rattle.sm_instance.specs.Written.{agent_at}
+use Rattle.sm_agents.specs.Written.{agent_at}
 use Rattle.sm_instance.specs.Inputs.{kind_of}
 use Rattle.sm_instance.specs.declared.inputs.Input.{Input}
 use Rattle.sm_instance.specs.declared.inputs.Input.TheVariants.{Two, Room}

@@ -1,6 +1,6 @@
 -- What is counted of the seats of an instance.
 use Rattle.std.specs.Prelude.{◌≡◌}
-use Rattle.sm_instance.specs.Written.{Written}
+use Rattle.sm_agents.specs.Written.{Written}
 use Rattle.sm_instance.specs.declared.inputs.Input.{Input}
 use Rattle.sm_instance.specs.declared.inputs.Input.TheVariants.{Two}
 use Rattle.sm_seats.specs.Counted.{AreSeatCounts}

@@ -3,12 +3,12 @@ use Rattle.std.specs.Prelude.{◌≡◌, ℕ, Bool, true, false, List, [], ◌�
 use Rattle.serde_json.specs.Written.{compact_text}
 use Rattle.sm_text.specs.Lines.{texts_from}
 use Rattle.sm_answer.specs.Printing.{IsShown}
-use Rattle.sm_instance.specs.Written.{AgentData, Written}
+use Rattle.sm_agents.specs.Written.{AgentData, Written}
 use Rattle.sm_instance.specs.declared.inputs.Input.{Input}
 use Rattle.sm_instance.specs.declared.inputs.Input.TheVariants.{Two, Room}
-use Rattle.sm_instance.specs.declared.kinds.Measure.{Measure}
-use Rattle.sm_instance.specs.declared.kinds.Side.{Side}
-use Rattle.sm_instance.specs.declared.kinds.Side.TheVariants.{Proposers}
+use Rattle.sm_agents.specs.declared.kinds.Measure.{Measure}
+use Rattle.sm_agents.specs.declared.kinds.Side.{Side}
+use Rattle.sm_agents.specs.declared.kinds.Side.TheVariants.{Proposers}
 use Rattle.sm_reader.specs.InstanceText.{ReadText}
 use Rattle.sm_report.specs.Heads.{HeadData}
 use Rattle.sm_report.specs.Lines.{LineData}

@@ -4,7 +4,7 @@ ghost use Rattle.std.specs.Prelude.{◌≡◌, ◌≤◌, ◌<◌, List, ℕ, le
 ghost use Rattle.sm_answer.specs.Giving.{HasRest};
 ghost use Rattle.sm_answer.specs.Printing.{IsShown};
 ghost use Rattle.sm_instance.specs.Inputs.{right_of};
-ghost use Rattle.sm_instance.specs.Written.{agent_at};
+ghost use Rattle.sm_agents.specs.Written.{agent_at};
 ghost use Rattle.sm_instance.specs.declared.inputs.Input.{Input};
 ghost use Rattle.sm_reader.specs.InstanceText.{instance_text, read_of};
 ghost use Rattle.sm_report.specs.Lines.{line_of};

@@ -2,7 +2,7 @@
 
 ghost use Rattle.std.specs.Prelude.{◌≡◌, ℕ, ◌+◌, ◌<◌, ◌^◌, ◌≤◌, ◌↔◌, drop, Ok, None, IfOk, IfErr, OnOk, OnErr, IsTrue, unwrap_or, length, map, true, false, List};
 ghost use Rattle.sm_answer.specs.Printing.{IsShown};
-ghost use Rattle.sm_instance.specs.Sound.{IsInstance};
+ghost use Rattle.sm_agents.specs.Sound.{IsInstance};
 ghost use Rattle.sm_instance.specs.declared.inputs.Input.TheVariants.{Two, Room};
 ghost use Rattle.sm_reader.specs.InstanceText.{read_of};
 ghost use Rattle.sm_report.specs.Sound.{IsLimit};

@@ -1,8 +1,8 @@
 -- What words may ask for, as plain data.
 use Rattle.std.specs.Prelude.{◌≡◌, ◌≤◌, ◌<◌, ◌^◌, ℕ, Bool, true, false, List as Vector, Option}
 use Rattle.std.specs.Option.{option_map}
-use Rattle.sm_instance.specs.declared.kinds.Measure.{Measure}
-use Rattle.sm_instance.specs.declared.kinds.Side.{Side}
+use Rattle.sm_agents.specs.declared.kinds.Measure.{Measure}
+use Rattle.sm_agents.specs.declared.kinds.Side.{Side}
 use Rattle.sm_make.specs.declared.shape.Shape.{Shape}
 use Rattle.sm_make.specs.Made.{most_size}
 use Rattle.sm_report.specs.Sound.{IsLimit}

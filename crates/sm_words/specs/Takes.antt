@@ -1,7 +1,7 @@
 -- What a job takes.
 use Rattle.std.specs.Prelude.{◌≡◌, ℕ, Bool, true, false, not, List, None}
-use Rattle.sm_instance.specs.declared.kinds.Kind.{Kind}
-use Rattle.sm_instance.specs.declared.kinds.Kind.TheVariants.{Marriage, Hospitals, Roommates}
+use Rattle.sm_agents.specs.declared.kinds.Kind.{Kind}
+use Rattle.sm_agents.specs.declared.kinds.Kind.TheVariants.{Marriage, Hospitals, Roommates}
 use Rattle.sm_words.specs.Jobs.{JobData, Solve, Meet, Join, Check, Make, Rest, Route, Export}
 
 -- an input: every job but `make` reads one

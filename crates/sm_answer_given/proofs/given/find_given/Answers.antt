@@ -1,7 +1,7 @@
 use Rattle.std.proofs.Common.{ap, length, ◌+◌, ◌∙◌, ◌≡◌, subst, arith}
 use Rattle.sm_text.specs.Lines.{texts_from}
 use Rattle.sm_instance.specs.declared.inputs.Input.{Input}
-use Rattle.sm_instance.proofs.FaultLemmas.{on_err}
+use Rattle.sm_agents.proofs.FaultLemmas.{on_err}
 use Rattle.sm_answer_given.specs.declared.faults.Which.TheVariants.{Left, Right}
 use Rattle.sm_answer_given.specs.GivenText.{AreGiven}
 use Rattle.sm_pairs.specs.Held.{places_in, CanHold}

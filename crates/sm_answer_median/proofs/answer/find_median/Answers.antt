@@ -1,7 +1,7 @@
 use Rattle.std.proofs.Common.{◌≡◌, ◌∙◌, List, Vec, ℕ, length, sym, subst, arith}
 use Rattle.std.specs.declared.alloc.Global.{Global}
 use Rattle.sm_lists.proofs.ResultLemmas.{take-append_at_length}
-use Rattle.sm_instance.proofs.FaultLemmas.{on_err}
+use Rattle.sm_agents.proofs.FaultLemmas.{on_err}
 use Rattle.sm_market.specs.Vectors.{rows_of}
 use Rattle.sm_answer_median.specs.Found.{IsMedianFault}
 use Rattle.sm_answer_median.specs.RankCounts.{IsMedianCounted}

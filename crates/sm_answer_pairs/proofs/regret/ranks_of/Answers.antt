@@ -1,7 +1,7 @@
 use Rattle.std.proofs.Common.{◌≡◌, ℕ, ◌-◌, ◌++◌, ◌∷◌, [], ◌∙◌, List, ap, sym, subst, arith, get_or, length, map, Some}
 use Rattle.std.specs.List.{range_with_len}
 use Rattle.std.proofs.lemmas.List.FromFn.{map-range_with_len_more}
-use Rattle.sm_instance.specs.Written.{entry, IsAcceptable}
+use Rattle.sm_agents.specs.Written.{entry, IsAcceptable}
 use Rattle.sm_instance.specs.Ranks.{worse_rank}
 use Rattle.sm_market.specs.Lists.{Lists, row}
 use Rattle.sm_seats.specs.Seating.{written_place}

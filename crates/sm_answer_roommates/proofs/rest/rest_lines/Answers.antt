@@ -1,4 +1,4 @@
-use Rattle.sm_instance.specs.Written.{lists_of}
+use Rattle.sm_agents.specs.Written.{lists_of}
 use Rattle.sm_answer.proofs.AnswerLemmas.{same_some, same_is, joined_some, joined_is, given_right, given_some}
 use Rattle.sm_answer_roommates.specs.RestAnswer.{IsRestOf}
 use Rattle.sm_answer_roommates.proofs.RestLemmas.{rest_given, rest_is, given_rest_sound, out_fits}

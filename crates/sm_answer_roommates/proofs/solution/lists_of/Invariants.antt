@@ -1,7 +1,7 @@
 use Rattle.std.proofs.Common.{◌≡◌, take}
 use Rattle.sm_lists.specs.Rows.{rows_of}
-use Rattle.sm_instance.specs.Written.{lists_of}
-use Rattle.sm_instance.specs.Vectors.{agents_of}
+use Rattle.sm_agents.specs.Written.{lists_of}
+use Rattle.sm_agents.specs.Vectors.{agents_of}
 use Rattle.sm_answer_roommates.proofs.solution.lists_of.Given as goal
 
 -- the lists so far

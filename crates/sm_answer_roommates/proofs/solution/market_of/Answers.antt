@@ -1,5 +1,5 @@
 use Rattle.std.proofs.Common.{◌≡◌, ◌∙◌, ap, subst, List, ℕ, IfOk}
-use Rattle.sm_instance.specs.Written.{AgentData, lists_of}
+use Rattle.sm_agents.specs.Written.{AgentData, lists_of}
 use Rattle.sm_answer_roommates.proofs.PersonLemmas.{persons_within, persons_listed}
 use Rattle.sm_answer_roommates.proofs.solution.market_of.Goals as goal
 

@@ -1,7 +1,7 @@
 use Rattle.std.proofs.Common.{◌≡◌, ℕ, ◌+◌, length, ap, ◌∙◌, arith}
 use Rattle.std.proofs.lemmas.List.{length-map}
-use Rattle.sm_instance.specs.Written.{place_of}
-use Rattle.sm_instance.proofs.ItemLemmas.{forced_in_range, forbidden_in_range}
+use Rattle.sm_agents.specs.Written.{place_of}
+use Rattle.sm_agents.proofs.ItemLemmas.{forced_in_range, forbidden_in_range}
 use Rattle.sm_answer_rotations.proofs.conditions.conditions_of.Goals as goal
 
 pub leveled-requires : goal.leveled-requires

@@ -1,6 +1,6 @@
 use Rattle.std.proofs.Common.{◌≡◌, ℕ, ◌+◌, [], Option, length, get_or, ap, ◌∙◌, arith}
 use Rattle.sm_seats.proofs.RowLemmas.{map_pushed}
-use Rattle.sm_instance.specs.Written.{row}
+use Rattle.sm_agents.specs.Written.{row}
 use Rattle.sm_answer_solve.specs.Admitting.{end_at}
 use Rattle.sm_answer_solve.proofs.admitting.ends.Goals as goal
 

@@ -1,6 +1,6 @@
 use Rattle.std.proofs.Common.{◌≡◌, map, length, get_or}
 use Rattle.std.specs.List.{range_with_len}
-use Rattle.sm_instance.specs.Written.{row}
+use Rattle.sm_agents.specs.Written.{row}
 use Rattle.sm_answer_solve.specs.Admitting.{end_at}
 use Rattle.sm_answer_solve.proofs.admitting.ends.Given as goal
 

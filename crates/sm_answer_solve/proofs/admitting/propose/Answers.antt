@@ -1,6 +1,6 @@
 use Rattle.std.proofs.Common.{◌≡◌, ℕ, ◌-◌, ◌<◌, length, get_or, sym, ap, subst, ◌∙◌, arith}
-use Rattle.sm_instance.specs.Written.{Written}
-use Rattle.sm_instance.proofs.ListLemmas.{row_in_range}
+use Rattle.sm_agents.specs.Written.{Written}
+use Rattle.sm_agents.proofs.ListLemmas.{row_in_range}
 use Rattle.sm_seats.proofs.TableLemmas.{seats_read}
 use Rattle.sm_seats.proofs.CorrespondenceLaws.{sound_entries}
 use Rattle.sm_answer_solve.specs.Admitting.{IsProposed, IsProposing}

@@ -31,7 +31,7 @@ loop-r-preserved c =
             let same : r ≡ t = omega (arith, lt, ge) in
             let first = ap (seats_before w) same in
             let count = ap (seat_count w) same in
-            c.fill_between.ensures.filled (seats_before w t + k) (omega (arith, s.first, first)) (omega (arith, s.next, first, count, below)) ∙ c.reviewer_len.ensures.length ∙ ap (λ x. length (Rattle.sm_instance.specs.Written.row w.reviewers x)) same
+            c.fill_between.ensures.filled (seats_before w t + k) (omega (arith, s.first, first)) (omega (arith, s.next, first, count, below)) ∙ c.reviewer_len.ensures.length ∙ ap (λ x. length (Rattle.sm_agents.specs.Written.row w.reviewers x)) same
       ];
     }
 

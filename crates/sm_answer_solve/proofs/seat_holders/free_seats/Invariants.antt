@@ -1,5 +1,5 @@
 use Rattle.std.proofs.Common.{◌≡◌, ℕ, ◌+◌, ◌<◌, length, get_or}
-use Rattle.sm_instance.specs.Written.{row}
+use Rattle.sm_agents.specs.Written.{row}
 use Rattle.sm_seats.specs.SeatMarket.{seat_count, seats_before}
 use Rattle.sm_answer_solve.proofs.seat_holders.free_seats.Given as goal
 

@@ -1,6 +1,6 @@
 use Rattle.std.proofs.Common.{◌↔◌, sym, subst, IsTrue}
 use Rattle.std.proofs.lemmas.Result.{IfOk-weaker}
-use Rattle.sm_instance.specs.Sound.{IsInstance}
+use Rattle.sm_agents.specs.Sound.{IsInstance}
 use Rattle.sm_market.specs.Lists.{Lists}
 use Rattle.sm_market.specs.Stable.{IsStable, IsProposersBest, IsReviewersBest}
 use Rattle.sm_check_answers.proofs.SolvingLemmas.{seats_stable, proposers_best_is, reviewers_best_is}

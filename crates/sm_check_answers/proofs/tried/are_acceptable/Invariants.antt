@@ -1,5 +1,5 @@
 use Rattle.std.proofs.Common.{◌≡◌, ℕ, ◌<◌, Some}
-use Rattle.sm_instance.specs.Written.{entry, IsAcceptable}
+use Rattle.sm_agents.specs.Written.{entry, IsAcceptable}
 use Rattle.sm_instance.specs.Matching.{held}
 use Rattle.sm_check_answers.proofs.tried.are_acceptable.Given as goal
 

@@ -1,5 +1,5 @@
 use Rattle.std.proofs.Common.{◌≡◌, ℕ, ◌<◌, ◌≤◌, true}
-use Rattle.sm_instance.specs.Written.{capacity_of}
+use Rattle.sm_agents.specs.Written.{capacity_of}
 use Rattle.sm_instance.specs.Matching.{load}
 use Rattle.sm_check_answers.specs.Tried.{is_touched}
 use Rattle.sm_check_answers.proofs.tried.are_within.Given as goal

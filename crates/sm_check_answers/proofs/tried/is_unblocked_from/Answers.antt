@@ -1,6 +1,6 @@
 use Rattle.std.proofs.Common.{arith, refl}
 use Rattle.std.proofs.lemmas.Bool.{false≢true}
-use Rattle.sm_instance.specs.Written.{entry}
+use Rattle.sm_agents.specs.Written.{entry}
 use Rattle.sm_instance.proofs.PlaceLemmas.{place_of-le-at}
 use Rattle.sm_check_answers.proofs.TriedLemmas.{unblocked_to, not_unblocked}
 use Rattle.sm_check_answers.proofs.tried.is_unblocked_from.Goals as goal

@@ -1,7 +1,7 @@
 use Rattle.std.proofs.Common.{◌≡◌, ◌∙◌, arith, ap, sym, subst, List, ℤ, length, map}
 use Rattle.std.proofs.lemmas.List.{length-map}
 use Rattle.sm_lists.specs.Rows.{rows_of}
-use Rattle.sm_instance.proofs.ItemLemmas.{forced_in_range, forbidden_in_range}
+use Rattle.sm_agents.proofs.ItemLemmas.{forced_in_range, forbidden_in_range}
 use Rattle.sm_market.specs.Limits.{IsWithinLimits}
 use Rattle.sm_theory.specs.Sizes.{weights_in, AreWeights}
 use Rattle.sm_theory.specs.Vectors.{AreLevels}

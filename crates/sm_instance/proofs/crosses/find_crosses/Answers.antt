@@ -5,8 +5,8 @@ use Rattle.sm_lists.specs.Crosses.{AreCrossPlaces as AreCrossesKnown}
 use Rattle.sm_lists.specs.Held.{held_in, AreShort}
 use Rattle.sm_lists.specs.Namings.{AreNamings as AreKnown}
 use Rattle.sm_lists.specs.declared.compact_naming.CompactNaming.{CompactNaming}
-use Rattle.sm_instance.specs.Written.{AgentData, lists_of}
-use Rattle.sm_instance.specs.Vectors.{agents_of}
+use Rattle.sm_agents.specs.Written.{AgentData, lists_of}
+use Rattle.sm_agents.specs.Vectors.{agents_of}
 use Rattle.sm_instance.proofs.CrossLemmas.{lists_short, shorter, crosses_known, held_in-places, namings_known}
 use Rattle.sm_instance.proofs.crosses.find_crosses.Goals as goal
 

@@ -1,7 +1,7 @@
 use Rattle.std.proofs.Common.{◌≡◌, take}
 use Rattle.sm_lists.specs.Rows.{lists_in}
-use Rattle.sm_instance.specs.Written.{lists_of}
-use Rattle.sm_instance.specs.Vectors.{agents_of}
+use Rattle.sm_agents.specs.Written.{lists_of}
+use Rattle.sm_agents.specs.Vectors.{agents_of}
 use Rattle.sm_instance.proofs.crosses.lists.Given as goal
 
 abbrev pub invariant-loop-agent : goal.invariant-loop-agent

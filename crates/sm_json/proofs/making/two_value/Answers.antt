@@ -4,9 +4,9 @@ use Rattle.std.proofs.lemmas.List.{length-map}
 use Rattle.serde_json.specs.Data.{object}
 use Rattle.serde_json.specs.View.{view, members_view}
 use Rattle.serde_json.specs.declared.value.Value.{Value}
-use Rattle.sm_instance.specs.Sound.{IsPairOf}
-use Rattle.sm_instance.specs.Written.{weighed}
-use Rattle.sm_instance.specs.Vectors.{agent_of, agents_of}
+use Rattle.sm_agents.specs.Sound.{IsPairOf}
+use Rattle.sm_agents.specs.Written.{weighed}
+use Rattle.sm_agents.specs.Vectors.{agent_of, agents_of}
 use Rattle.sm_instance.specs.declared.inputs.Input.TheVariants.{Two}
 use Rattle.sm_printed.specs.Names.{said_order}
 use Rattle.sm_json.specs.Making.{json_of, two_json, said_by, put_order, conditions_put}

@@ -3,9 +3,9 @@ use Rattle.std.specs.Int.RustNames.{FitsSigned}
 use Rattle.std.proofs.lemmas.Int.{to_z-of_z}
 use Rattle.serde_json.specs.View.{view}
 use Rattle.serde_json.specs.declared.value.Value.{Value}
-use Rattle.sm_instance.specs.Sound.{IsPairOf}
-use Rattle.sm_instance.specs.Vectors.{agents_of}
-use Rattle.sm_instance.specs.Written.{weighed}
+use Rattle.sm_agents.specs.Sound.{IsPairOf}
+use Rattle.sm_agents.specs.Vectors.{agents_of}
+use Rattle.sm_agents.specs.Written.{weighed}
 use Rattle.sm_printed.specs.Names.{said_weight}
 use Rattle.sm_json.specs.Making.{weight_json}
 use Rattle.sm_json.proofs.MakeLemmas.{small_fits}

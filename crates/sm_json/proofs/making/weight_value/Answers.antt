@@ -4,8 +4,8 @@ use Rattle.std.proofs.lemmas.Int.{to_z-of_z}
 use Rattle.serde_json.specs.Data.{Data, number, string}
 use Rattle.serde_json.specs.Find.{of_integer}
 use Rattle.serde_json.specs.View.{view}
-use Rattle.sm_instance.specs.Vectors.{agents_of}
-use Rattle.sm_instance.specs.Named.{SaidWeight}
+use Rattle.sm_agents.specs.Vectors.{agents_of}
+use Rattle.sm_agents.specs.Named.{SaidWeight}
 use Rattle.sm_printed.specs.Names.{said_weight}
 use Rattle.sm_json.proofs.MakeLemmas.{pushed, array_made, one_number, two_numbers}
 use Rattle.sm_json.proofs.making.weight_value.Goals as goal

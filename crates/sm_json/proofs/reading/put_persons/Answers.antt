@@ -1,7 +1,7 @@
 use Rattle.std.proofs.Common.{codes, Some, false}
 use Rattle.serde_json.specs.View.{view}
 use Rattle.sm_json.specs.declared.agents.Role.TheVariants.{Proposer}
-use Rattle.sm_instance.specs.declared.kinds.Kind.TheVariants.{Roommates}
+use Rattle.sm_agents.specs.declared.kinds.Kind.TheVariants.{Roommates}
 use Rattle.sm_json.specs.JsonText.{json_header}
 use Rattle.sm_json.specs.Adding.{joined}
 use Rattle.sm_json.specs.Roles.{with_end, agents_added}

@@ -1,5 +1,5 @@
 use Rattle.std.proofs.Common.{◌≡◌, ◌+◌, ◌-◌, ◌*◌, ◌≤◌, ℕ, ◌∙◌, ap, arith, sym, subst, true≢false}
-use Rattle.sm_instance.specs.declared.kinds.Kind.TheVariants.{Hospitals}
+use Rattle.sm_agents.specs.declared.kinds.Kind.TheVariants.{Hospitals}
 use Rattle.sm_instance.specs.declared.inputs.Input.{Input}
 use Rattle.sm_make.specs.Words.{words, of_seed}
 use Rattle.sm_make.specs.Lists.{shuffled_list}

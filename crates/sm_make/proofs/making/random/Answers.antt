@@ -1,5 +1,5 @@
 use Rattle.std.proofs.Common.{◌-◌, ◌*◌, ◌∙◌, arith, refl}
-use Rattle.sm_instance.specs.declared.kinds.Kind.TheVariants.{Marriage}
+use Rattle.sm_agents.specs.declared.kinds.Kind.TheVariants.{Marriage}
 use Rattle.sm_make.specs.Made.{proposer_letter, reviewer_letter, words_for}
 use Rattle.sm_make.specs.declared.shape.Shape.TheVariants.{Random}
 use Rattle.sm_make.proofs.DrawnLemmas.{drawn_first, drawn_second}

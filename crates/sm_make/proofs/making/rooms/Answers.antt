@@ -1,5 +1,5 @@
 use Rattle.std.proofs.Common.{◌∙◌, ap, sym, subst}
-use Rattle.sm_instance.specs.Sound.{ArePersons}
+use Rattle.sm_agents.specs.Sound.{ArePersons}
 use Rattle.sm_instance.specs.declared.inputs.Input.TheVariants.{Room}
 use Rattle.sm_make.specs.Words.{of_seed, words}
 use Rattle.sm_make.specs.Made.{proposer_letter, agents_made, words_for}

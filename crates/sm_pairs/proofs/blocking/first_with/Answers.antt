@@ -1,6 +1,6 @@
 use Rattle.std.proofs.Common.{ℕ, ◌<◌, length, subst, arith}
 use Rattle.std.specs.Prelude.{slice_index}
-use Rattle.sm_instance.specs.Written.{row}
+use Rattle.sm_agents.specs.Written.{row}
 use Rattle.sm_instance.specs.Stable.{IsGainLimit}
 use Rattle.sm_instance.proofs.BlockLemmas.{blocks_by}
 use Rattle.sm_pairs.proofs.GainLemmas.{blocks_none, first_here, standing_on}

@@ -1,5 +1,5 @@
 use Rattle.std.proofs.Common.{ℕ, ◌<◌}
-use Rattle.sm_instance.specs.Written.{entry}
+use Rattle.sm_agents.specs.Written.{entry}
 use Rattle.sm_instance.specs.Stable.{Blocks}
 use Rattle.sm_pairs.proofs.blocking.first_with.Given as goal
 

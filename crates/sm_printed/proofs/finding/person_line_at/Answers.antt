@@ -1,6 +1,6 @@
 use Rattle.std.proofs.Common.{◌≡◌, length, ap, ◌∙◌, sym, arith}
 use Rattle.std.proofs.lemmas.List.{length-map}
-use Rattle.sm_instance.specs.Vectors.{agent_of}
+use Rattle.sm_agents.specs.Vectors.{agent_of}
 use Rattle.sm_printed.proofs.AgentLemmas.{person_text, persons_end, past_end}
 use Rattle.sm_printed.proofs.finding.person_line_at.Goals as goal
 

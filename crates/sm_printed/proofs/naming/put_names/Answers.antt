@@ -1,5 +1,5 @@
 use Rattle.std.proofs.Common.{[], ◌∷◌, sym}
-use Rattle.sm_instance.specs.Vectors.{agents_of}
+use Rattle.sm_agents.specs.Vectors.{agents_of}
 use Rattle.sm_report.proofs.PutLemmas.{items_put, items_broken, spaced-map}
 use Rattle.sm_printed.specs.Names.{name_of}
 use Rattle.sm_printed.proofs.naming.put_names.Goals as goal

@@ -1,7 +1,7 @@
 use Rattle.std.proofs.Common.{◌∷◌, Ok, take}
 use Rattle.std.specs.List.{flat_map}
 use Rattle.std.specs.declared.alloc.AllocError.{AllocError}
-use Rattle.sm_instance.specs.Vectors.{agents_of}
+use Rattle.sm_agents.specs.Vectors.{agents_of}
 use Rattle.sm_report.specs.Putting.{PutsText}
 use Rattle.sm_printed.specs.Names.{name_of}
 use Rattle.sm_printed.proofs.naming.put_names.Given as goal

@@ -1,5 +1,5 @@
 use Rattle.std.proofs.Common.{◌++◌, codes, map, ap, ◌∙◌, Ok}
-use Rattle.sm_instance.specs.Vectors.{agents_of}
+use Rattle.sm_agents.specs.Vectors.{agents_of}
 use Rattle.sm_report.proofs.PutLemmas.{puts_then, puts_same}
 use Rattle.sm_printed.specs.Names.{name_of}
 use Rattle.sm_printed.specs.Printed.{capacity_text, list_text}

@@ -1,7 +1,7 @@
 use Rattle.std.proofs.Common.{◌≡◌, ℕ, List, ◌++◌, ◌∷◌, [], true, false, cond, Some, ◌∙◌, ap, sym, refl, rules}
 use Rattle.std.specs.List.{list_any}
 use Rattle.indexmap.specs.IndexSet.{keys}
-use Rattle.sm_instance.specs.Named.{is_given_to}
+use Rattle.sm_agents.specs.Named.{is_given_to}
 use Rattle.std.specs.Borrow.{Bor}
 use Rattle.std.specs.Option.{option_map}
 use Rattle.sm_reader.specs.Judging.{weight_in, second_in}

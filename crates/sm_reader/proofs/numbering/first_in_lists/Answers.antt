@@ -1,6 +1,6 @@
 use Rattle.std.proofs.Common.{◌≡◌, ◌++◌, ◌∷◌, [], ap, ◌∙◌, sym, subst, length, map, take}
 use Rattle.std.specs.List.{list_any}
-use Rattle.sm_instance.specs.Named.{SaidAgent}
+use Rattle.sm_agents.specs.Named.{SaidAgent}
 use Rattle.sm_lists.specs.Earlier.{earlier_of}
 use Rattle.sm_keys.specs.Tables.{is_unknown, text_at, AreBelow}
 use Rattle.sm_reader.specs.InstanceText.{lines_with_unknown, least}

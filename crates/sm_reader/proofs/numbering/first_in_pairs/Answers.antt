@@ -1,6 +1,6 @@
 use Rattle.std.proofs.Common.{◌≡◌, ◌++◌, ◌∷◌, [], ap, ◌∙◌, ◌||◌, sym, subst, length, map, take, get_or, List}
 use Rattle.std.proofs.lemmas.List.{map_push}
-use Rattle.sm_instance.specs.Named.{SaidPair}
+use Rattle.sm_agents.specs.Named.{SaidPair}
 use Rattle.sm_lists.specs.Earlier.{earlier_of}
 use Rattle.sm_keys.specs.Tables.{is_unknown}
 use Rattle.sm_reader.specs.InstanceText.{pairs_with_unknown, least}

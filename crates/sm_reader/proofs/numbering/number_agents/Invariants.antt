@@ -1,6 +1,6 @@
 use Rattle.std.proofs.Common.{◌≡◌, ◌++◌, length, map}
 use Rattle.std.specs.Vec.Iter.{into_iter_items, into_iter_len}
-use Rattle.sm_instance.specs.Vectors.{agents_of}
+use Rattle.sm_agents.specs.Vectors.{agents_of}
 use Rattle.sm_reader.specs.InstanceText.{numbered}
 use Rattle.sm_reader.specs.Draft.{agent_in}
 use Rattle.sm_reader.proofs.numbering.number_agents.Given as goal

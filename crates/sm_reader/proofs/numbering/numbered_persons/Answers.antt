@@ -1,5 +1,5 @@
 use Rattle.std.proofs.Common.{arith}
-use Rattle.sm_instance.specs.declared.kinds.Kind.TheVariants.{Roommates}
+use Rattle.sm_agents.specs.declared.kinds.Kind.TheVariants.{Roommates}
 use Rattle.sm_reader.proofs.NumberLemmas.{few_names}
 use Rattle.sm_reader.proofs.numbering.numbered_persons.Goals as goal
 

@@ -1,5 +1,5 @@
 use Rattle.std.proofs.Common.{◌≡◌, ap}
-use Rattle.sm_instance.specs.declared.parts.Parts.{Parts}
+use Rattle.sm_agents.specs.declared.parts.Parts.{Parts}
 use Rattle.sm_reader.specs.Numbering.{NumbersSides}
 use Rattle.sm_reader.proofs.NumberLemmas.{sides_of}
 use Rattle.sm_reader.proofs.ResultLemmas.{if_ok}

@@ -2,7 +2,7 @@ use Rattle.std.proofs.Common.{ℕ, ◌<◌, ◌≤◌, length, ap, ◌∙◌, sy
 use Rattle.std.specs.Option.{option_map_or}
 use Rattle.std.proofs.lemmas.Bool.Decides.{nat_tests}
 use Rattle.sm_text.specs.declared.refusal.RefusalKind.TheVariants.{BadHeader}
-use Rattle.sm_instance.specs.declared.kinds.Kind.{Kind}
+use Rattle.sm_agents.specs.declared.kinds.Kind.{Kind}
 use Rattle.sm_reader.specs.Judging.{heads, faces}
 use Rattle.sm_reader.proofs.JudgeLemmas.{heading_of-empty, heading_of-bad, heading_of-form}
 use Rattle.sm_reader.proofs.reading.heading.Goals as goal

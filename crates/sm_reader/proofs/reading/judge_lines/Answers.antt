@@ -1,7 +1,7 @@
 use Rattle.std.proofs.Common.{◌+◌, drop, ap, ◌∙◌, sym, subst, arith}
 use Rattle.sm_text.specs.Lines.{lines}
 use Rattle.sm_text.specs.Tokens.{tokens}
-use Rattle.sm_instance.specs.Named.{nothing}
+use Rattle.sm_agents.specs.Named.{nothing}
 use Rattle.sm_reader.specs.InstanceText.{behind_header, ended}
 use Rattle.sm_reader.specs.Draft.{said_of}
 use Rattle.sm_reader.specs.Reading.{IsFaultOf}

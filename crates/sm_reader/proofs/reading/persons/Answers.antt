@@ -1,8 +1,8 @@
 use Rattle.std.proofs.Common.{ap, ◌∙◌, sym, subst}
-use Rattle.sm_instance.specs.Sound.{ArePersons}
+use Rattle.sm_agents.specs.Sound.{ArePersons}
 use Rattle.sm_instance.specs.declared.inputs.Input.TheVariants.{Room}
 use Rattle.sm_reader.specs.Draft.{said_of}
-use Rattle.sm_instance.specs.declared.kinds.Kind.TheVariants.{Roommates}
+use Rattle.sm_agents.specs.declared.kinds.Kind.TheVariants.{Roommates}
 use Rattle.sm_reader.proofs.NumberLemmas.{persons_said}
 use Rattle.sm_reader.proofs.SoundLemmas.{persons_sound}
 use Rattle.sm_reader.proofs.reading.persons.Goals as goal

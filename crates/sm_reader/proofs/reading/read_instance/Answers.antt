@@ -1,6 +1,6 @@
 use Rattle.std.proofs.Common.{◌≡◌, ◌+◌, ◌∙◌, arith, drop, Ok}
 use Rattle.sm_text.specs.Lines.{lines}
-use Rattle.sm_instance.specs.Named.{nothing}
+use Rattle.sm_agents.specs.Named.{nothing}
 use Rattle.sm_reader.specs.InstanceText.{instance_text, read_of, IsTextFault, before_header, behind_header}
 use Rattle.sm_reader.proofs.ReadingLemmas.{instance_text-too_long, instance_text-short, text_fault}
 use Rattle.sm_reader.proofs.ResultLemmas.{on_err, if_ok, if_err}

@@ -1,5 +1,5 @@
 use Rattle.std.proofs.Common.{arith}
-use Rattle.sm_instance.specs.Written.{row}
+use Rattle.sm_agents.specs.Written.{row}
 use Rattle.sm_seats.specs.Mutual.{lists_back}
 use Rattle.sm_seats.proofs.FilterLemmas.{length-filter-take}
 use Rattle.sm_seats.proofs.counts.seats_at.Goals as goal

@@ -1,5 +1,5 @@
 use Rattle.std.proofs.Common.{◌<◌, ◌∙◌, arith, length}
-use Rattle.sm_instance.specs.Written.{row, entry}
+use Rattle.sm_agents.specs.Written.{row, entry}
 use Rattle.sm_seats.proofs.CrossLemmas.{lists_back-told, cross_read}
 use Rattle.sm_seats.proofs.TableLemmas.{count_more, count_same}
 use Rattle.sm_seats.proofs.entry_counts.acceptable_count.Goals as goal

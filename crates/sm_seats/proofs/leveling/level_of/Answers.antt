@@ -1,5 +1,5 @@
 use Rattle.std.proofs.Common.{◌+◌, ◌∙◌, sym, ap, arith}
-use Rattle.sm_instance.specs.Written.{row}
+use Rattle.sm_agents.specs.Written.{row}
 use Rattle.sm_lists.proofs.FoundLemmas.{found_on-some, place_on-unfound}
 use Rattle.sm_seats.proofs.leveling.level_of.Goals as goal
 

@@ -2,7 +2,7 @@ use Rattle.std.proofs.Common.{pos, replicate, ◌≡◌, ℕ, ◌-◌, ◌++◌,
 use Rattle.std.proofs.lemmas.List.Elements.{All-push}
 use Rattle.std.specs.List.{range_with_len}
 use Rattle.std.proofs.lemmas.List.FromFn.{map-range_with_len_more, length-range_with_len}
-use Rattle.sm_instance.specs.Written.{entry, IsAcceptable}
+use Rattle.sm_agents.specs.Written.{entry, IsAcceptable}
 use Rattle.sm_market.specs.Lists.{Lists, row}
 use Rattle.sm_seats.specs.Seating.{written_place}
 use Rattle.sm_seats.proofs.SeatingLemmas.{level_is}

@@ -2,7 +2,7 @@ use Rattle.std.proofs.Common.{◌≡◌, ℕ, ◌+◌, ◌-◌, ◌<◌, ◌++�
 use Rattle.std.proofs.lemmas.List.{get_or-take}
 use Rattle.std.proofs.lemmas.List.Elements.{All-push}
 use Rattle.std.proofs.lemmas.List.FromFn.{map-range_with_len_more}
-use Rattle.sm_instance.specs.declared.kinds.Measure.TheVariants.{Ranks}
+use Rattle.sm_agents.specs.declared.kinds.Measure.TheVariants.{Ranks}
 use Rattle.sm_instance.specs.Ranks.{pair_weight, rank_back}
 use Rattle.sm_instance.specs.declared.crosses.Crosses.{Crosses}
 use Rattle.sm_market.specs.Lists.{Lists, row}

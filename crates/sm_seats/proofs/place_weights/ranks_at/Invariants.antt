@@ -1,6 +1,6 @@
 use Rattle.std.proofs.Common.{◌≡◌, All, map, Some}
 use Rattle.std.specs.List.{range_with_len}
-use Rattle.sm_instance.specs.declared.kinds.Measure.TheVariants.{Ranks}
+use Rattle.sm_agents.specs.declared.kinds.Measure.TheVariants.{Ranks}
 use Rattle.sm_instance.specs.Ranks.{pair_weight}
 use Rattle.sm_seats.specs.Seating.{written_place}
 use Rattle.sm_seats.specs.PlaceWeights.{IsLight}

@@ -1,6 +1,6 @@
 use Rattle.std.proofs.Common.{◌≡◌, sym, subst}
 use Rattle.std.specs.Result.{IfOk}
-use Rattle.sm_instance.specs.declared.kinds.Measure.{Measure}
+use Rattle.sm_agents.specs.declared.kinds.Measure.{Measure}
 use Rattle.sm_seats.specs.Correspondence.{weights_of}
 use Rattle.sm_theory.specs.Sizes.{weights_in}
 use Rattle.sm_seats.proofs.place_weights.weights_of_places.Goals as goal

@@ -1,7 +1,7 @@
 use Rattle.std.proofs.Common.{◌≡◌, ℕ, ◌+◌, ◌<◌, ◌++◌, ◌∷◌, [], List, ◌∙◌, sym, ap, map, arith, length}
 use Rattle.std.specs.List.{range_with_len}
 use Rattle.std.proofs.lemmas.List.FromFn.{map-range_with_len_more}
-use Rattle.sm_instance.specs.Written.{row, entry}
+use Rattle.sm_agents.specs.Written.{row, entry}
 use Rattle.sm_seats.specs.Tables.{mutual_before}
 use Rattle.sm_seats.proofs.CrossLemmas.{lists_back-told, cross_read}
 use Rattle.sm_seats.proofs.TableLemmas.{count_more, count_same}

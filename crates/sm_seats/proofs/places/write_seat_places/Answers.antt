@@ -1,7 +1,7 @@
 use Rattle.std.proofs.Common.{◌≡◌, ℕ, ◌+◌, ◌-◌, ◌<◌, ◌++◌, ◌∷◌, [], List, get_or, ◌∙◌, sym, ap, map, arith, length}
 use Rattle.std.specs.List.{range_with_len}
 use Rattle.std.proofs.lemmas.List.FromFn.{map-range_with_len_more}
-use Rattle.sm_instance.specs.Written.{row, entry}
+use Rattle.sm_agents.specs.Written.{row, entry}
 use Rattle.sm_seats.specs.SeatMarket.{seat_count}
 use Rattle.sm_seats.specs.Tables.{seats_listed}
 use Rattle.sm_seats.proofs.CrossLemmas.{lists_back-told, cross_read}

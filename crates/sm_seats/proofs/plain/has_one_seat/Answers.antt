@@ -1,7 +1,7 @@
 use Rattle.std.proofs.Common.{◌≡◌, length, get_or, sym, ap, ◌∙◌, arith}
 use Rattle.std.proofs.lemmas.Bool.{eqb-true, eq-eqb}
 use Rattle.std.proofs.lemmas.List.FromFn.{length-map-range_with_len, get_or-map-range_with_len}
-use Rattle.sm_instance.specs.Written.{row}
+use Rattle.sm_agents.specs.Written.{row}
 use Rattle.sm_seats.specs.Mutual.{lists_back}
 use Rattle.sm_seats.specs.Counted.{acceptable_at}
 use Rattle.sm_seats.proofs.FilterLemmas.{whole_filter}

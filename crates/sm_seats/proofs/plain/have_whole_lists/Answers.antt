@@ -1,6 +1,6 @@
 use Rattle.std.proofs.Common.{◌≡◌, ℕ, subst, sym, ◌∙◌, arith, inl, inr}
 use Rattle.std.proofs.lemmas.Bool.{cases_eq}
-use Rattle.sm_instance.specs.Written.{row}
+use Rattle.sm_agents.specs.Written.{row}
 use Rattle.sm_seats.specs.Mutual.{lists_back, mutual_row}
 use Rattle.sm_seats.proofs.FilterLemmas.{whole_filter}
 use Rattle.sm_seats.proofs.plain.have_whole_lists.Goals as goal

@@ -1,7 +1,7 @@
 use Rattle.std.proofs.Common.{◌≡◌, ◌+◌, length, ap, ◌∙◌, arith}
 use Rattle.std.proofs.lemmas.List.FromFn.{length-map-range_with_len}
 use Rattle.sm_lists.specs.Rows.{row as table_row, entry as table_entry}
-use Rattle.sm_instance.specs.Written.{row}
+use Rattle.sm_agents.specs.Written.{row}
 use Rattle.sm_seats.specs.Tables.{seats_listed, seat_places_at}
 use Rattle.sm_seats.proofs.TableLemmas.{seat_place_at, seat_row_at}
 use Rattle.sm_seats.proofs.proposer_rows.write_row.Goals as goal

@@ -3,7 +3,7 @@ use Rattle.std.specs.List.{filter}
 use Rattle.std.proofs.lemmas.List.FromFn.{length-map-range_with_len}
 use Rattle.std.proofs.lemmas.List.{map_push}
 use Rattle.sm_lists.specs.Rows.{row as table_row, entry as table_entry}
-use Rattle.sm_instance.specs.Written.{row, entry}
+use Rattle.sm_agents.specs.Written.{row, entry}
 use Rattle.sm_seats.specs.Mutual.{lists_back}
 use Rattle.sm_seats.specs.Tables.{begin_of, seat_places_of, seat_places_at, seats_listed}
 use Rattle.sm_seats.proofs.CrossLemmas.{cross_read, crossed_at, lists_back-none, back_more, back_same}

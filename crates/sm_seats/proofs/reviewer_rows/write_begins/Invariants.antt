@@ -1,6 +1,6 @@
 use Rattle.std.proofs.Common.{◌≡◌, map, take}
 use Rattle.std.specs.List.{filter}
-use Rattle.sm_instance.specs.Written.{row}
+use Rattle.sm_agents.specs.Written.{row}
 use Rattle.sm_seats.specs.Mutual.{lists_back}
 use Rattle.sm_seats.specs.Tables.{begin_of}
 use Rattle.sm_seats.proofs.reviewer_rows.write_begins.Given as goal

@@ -1,6 +1,6 @@
 use Rattle.std.proofs.Common.{◌≡◌, ℕ, ◌<◌, ◌∷◌, [], ◌++◌, List, get_or, length, take, sym, ap, ◌∙◌, arith}
 use Rattle.std.specs.List.{filter}
-use Rattle.sm_instance.specs.Written.{row, entry}
+use Rattle.sm_agents.specs.Written.{row, entry}
 use Rattle.sm_seats.specs.Mutual.{lists_back}
 use Rattle.sm_seats.proofs.CrossLemmas.{cross_read, lists_back-told, back_more, back_same}
 use Rattle.sm_seats.proofs.reviewer_rows.write_without_inert.Goals as goal

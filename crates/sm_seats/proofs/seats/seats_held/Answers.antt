@@ -1,5 +1,5 @@
 use Rattle.std.proofs.Common.{◌≡◌, unwrap_or, ap, ◌∙◌}
-use Rattle.sm_instance.specs.Written.{lists_of}
+use Rattle.sm_agents.specs.Written.{lists_of}
 use Rattle.sm_market.specs.Lists.{Lists}
 use Rattle.sm_seats.specs.SeatMarket.{seat_market}
 use Rattle.sm_seats.proofs.CorrespondenceLaws.{sound_entries, is_seating}

@@ -1,5 +1,5 @@
 use Rattle.std.proofs.Common.{◌≡◌, take}
-use Rattle.sm_instance.specs.Written.{lists_of}
+use Rattle.sm_agents.specs.Written.{lists_of}
 use Rattle.sm_seats.proofs.seats.written_lists.Given as goal
 
 abbrev pub invariant-loop-p : goal.invariant-loop-p

@@ -1,6 +1,6 @@
 use Rattle.std.proofs.Common.{sym, ap, ◌∙◌}
 use Rattle.sm_seats.specs.Levels.{has_two_levels}
-use Rattle.sm_instance.proofs.NonzeroLemmas.{any_is}
+use Rattle.sm_agents.proofs.NonzeroLemmas.{any_is}
 use Rattle.sm_seats.proofs.two_levels.has_two_levels.Goals as goal
 
 pub returns-in-Given : goal.returns-in-Given

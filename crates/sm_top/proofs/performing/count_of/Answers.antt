@@ -1,7 +1,7 @@
 use Rattle.std.proofs.Common.{List, length, ap, arith}
 use Rattle.std.proofs.lemmas.List.{length-map}
-use Rattle.sm_instance.specs.Written.{AgentData}
-use Rattle.sm_instance.specs.Vectors.{agent_of}
+use Rattle.sm_agents.specs.Written.{AgentData}
+use Rattle.sm_agents.specs.Vectors.{agent_of}
 use Rattle.sm_top.proofs.performing.count_of.Goals as goal
 
 pub returns : goal.returns

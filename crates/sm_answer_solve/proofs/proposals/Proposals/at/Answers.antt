@@ -1,6 +1,6 @@
 use Rattle.std.proofs.Common.{◌≡◌, refl, sym, ap, ◌∙◌}
 use Rattle.sm_lists.proofs.PlaceLemmas.{place_on-lt}
-use Rattle.sm_instance.specs.Written.{Written, row, entry}
+use Rattle.sm_agents.specs.Written.{Written, row, entry}
 use Rattle.sm_instance.specs.Crosses.{cross_place}
 use Rattle.sm_instance.proofs.AcceptLemmas.{cross_some}
 use Rattle.sm_answer_solve.proofs.proposals.Proposals.at.Goals as goal

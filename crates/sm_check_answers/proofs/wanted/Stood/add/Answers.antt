@@ -1,7 +1,7 @@
 use Rattle.std.proofs.Common.{◌≡◌, ◌<◌, ◌∙◌, Some, false, ap, sym, arith, length}
 use Rattle.std.proofs.lemmas.List.{get_or_default}
 use Rattle.sm_lists.proofs.PlaceLemmas.{get_or-place_on}
-use Rattle.sm_instance.specs.Written.{entry, place_of, row}
+use Rattle.sm_agents.specs.Written.{entry, place_of, row}
 use Rattle.sm_instance.proofs.PlaceLemmas.{place_of-entry}
 use Rattle.sm_check_answers.proofs.WantedLemmas.{stood_more, partner_in-none, some_stands}
 use Rattle.sm_check_answers.proofs.wanted.Stood.add.Goals.{then-reviewer_at-r-via-then-reviewer_at-r, then-reviewer_at-r-via-else-reviewer_at-r+then-index}

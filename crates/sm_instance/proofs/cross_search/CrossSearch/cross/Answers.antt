@@ -1,6 +1,6 @@
 use Rattle.std.proofs.Common.{arith}
 use Rattle.std.proofs.lemmas.Grind.{common_steps}
-use Rattle.sm_instance.specs.Written.{entry}
+use Rattle.sm_agents.specs.Written.{entry}
 use Rattle.sm_instance.proofs.AcceptLemmas.{cross_fits, fits_more}
 use Rattle.sm_instance.proofs.PlaceLemmas.{length-list-le}
 use Rattle.sm_instance.proofs.cross_search.CrossSearch.cross.Goals as goal

@@ -5,14 +5,15 @@ use Rattle.std.proofs.lemmas.List.{length-map}
 use Rattle.sm_text.specs.Limits.{most_weight}
 use Rattle.sm_lists.specs.Pairs.{pair_at}
 use Rattle.sm_lists.proofs.ResultLemmas.{take-append_at_length}
-use Rattle.sm_instance.specs.Written.{Written, weighed, seconds_among}
-use Rattle.sm_instance.specs.Vectors.{written_with}
-use Rattle.sm_instance.specs.Faults.{IsSecondFault, IsSoundSecond}
-use Rattle.sm_instance.specs.Checks.{AreGiven, IsGivenFault}
+use Rattle.sm_agents.specs.Written.{Written, weighed, seconds_among}
+use Rattle.sm_agents.specs.Vectors.{written_with}
+use Rattle.sm_agents.specs.Faults.{IsSecondFault, IsSoundSecond}
+use Rattle.sm_agents.specs.Checks.{AreGiven, IsGivenFault}
 use Rattle.sm_instance.specs.Kept.{IsKept}
-use Rattle.sm_instance.proofs.FaultLemmas.{on_err}
-use Rattle.sm_instance.proofs.ItemLemmas.{length-weighed, weights_differ}
-use Rattle.sm_instance.proofs.SecondLemmas.{given_small, given_seconds, second_sound, second_faulty, kept_with_seconds}
+use Rattle.sm_agents.proofs.FaultLemmas.{on_err}
+use Rattle.sm_agents.proofs.ItemLemmas.{length-weighed, weights_differ}
+use Rattle.sm_agents.proofs.SecondLemmas.{given_small, given_seconds, second_sound, second_faulty}
+use Rattle.sm_instance.proofs.KeptLemmas.{kept_with_seconds}
 use Rattle.sm_instance.proofs.instance.Instance.add_seconds.Goals as goal
 
 pub checked_seconds-requires-clause-differ : goal.checked_seconds-requires-clause-differ

@@ -1,5 +1,5 @@
 use Rattle.std.proofs.Common.{length, ap, arith}
-use Rattle.sm_instance.specs.Written.{Written}
+use Rattle.sm_agents.specs.Written.{Written}
 use Rattle.sm_instance.proofs.instance.Instance.build.Goals as goal
 
 pub checked-requires-clause-few : goal.checked-requires-clause-few

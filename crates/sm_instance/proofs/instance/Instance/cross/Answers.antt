@@ -1,8 +1,8 @@
 use Rattle.std.proofs.Common.{ap, subst, ◌∙◌, arith}
 use Rattle.std.proofs.lemmas.Grind.{common_steps}
 use Rattle.sm_lists.specs.Crosses.{found_on}
-use Rattle.sm_instance.specs.Written.{Written, row, entry}
-use Rattle.sm_instance.specs.Sound.{IsInstance}
+use Rattle.sm_agents.specs.Written.{Written, row, entry}
+use Rattle.sm_agents.specs.Sound.{IsInstance}
 use Rattle.sm_instance.proofs.AcceptLemmas.{cross_fits, proposer_row_fits}
 use Rattle.sm_instance.proofs.instance.Instance.cross.Goals as goal
 

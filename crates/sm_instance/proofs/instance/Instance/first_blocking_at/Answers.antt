@@ -1,7 +1,7 @@
 use Rattle.std.proofs.Common.{◌≡◌, ℕ, ◌<◌, List, Option, length, ap, sym, subst, ◌∙◌, arith, below_more}
 use Rattle.sm_lists.specs.CompactNamings.{naming_at}
 use Rattle.sm_lists.specs.declared.compact_naming.CompactNaming.{CompactNaming}
-use Rattle.sm_instance.specs.Written.{Written, entry, place_of}
+use Rattle.sm_agents.specs.Written.{Written, entry, place_of}
 use Rattle.sm_instance.specs.Stable.{Blocks, IsGainLimit}
 use Rattle.sm_instance.specs.Loads.{IsFirstBlockingWith}
 use Rattle.sm_instance.specs.Matching.{standing, IsAssignment}

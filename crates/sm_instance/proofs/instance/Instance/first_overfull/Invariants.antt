@@ -1,5 +1,5 @@
 use Rattle.std.proofs.Common.{◌≤◌}
-use Rattle.sm_instance.specs.Written.{capacity_of}
+use Rattle.sm_agents.specs.Written.{capacity_of}
 use Rattle.sm_instance.specs.Namings.{asked}
 use Rattle.sm_instance.proofs.LoadLemmas.{IsCounted}
 use Rattle.sm_instance.proofs.instance.Instance.first_overfull.Given as goal

@@ -1,7 +1,7 @@
 use Rattle.std.proofs.Common.{◌≢◌, ◌<◌, ℕ, ℤ, List, length, map, sym, subst}
-use Rattle.sm_instance.specs.Written.{weighed}
+use Rattle.sm_agents.specs.Written.{weighed}
 use Rattle.sm_lists.specs.Pairs.{pair_at}
-use Rattle.sm_instance.proofs.ItemLemmas.{weights_differ}
+use Rattle.sm_agents.proofs.ItemLemmas.{weights_differ}
 use Rattle.sm_instance.proofs.instance.Instance.held.Goals as goal
 
 pub of-requires-clause-differ : goal.of-requires-clause-differ

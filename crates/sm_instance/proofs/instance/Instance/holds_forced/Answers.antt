@@ -1,6 +1,6 @@
 use Rattle.std.proofs.Common.{length, IsTrue, refl, ap, arith}
 use Rattle.sm_instance.specs.Matching.{is_at}
-use Rattle.sm_instance.proofs.ItemLemmas.{forced_in_range, all_pairs}
+use Rattle.sm_agents.proofs.ItemLemmas.{forced_in_range, all_pairs}
 use Rattle.sm_instance.proofs.instance.Instance.holds_forced.Goals as goal
 
 pub is_at-requires-clause-in_range : goal.is_at-requires-clause-in_range

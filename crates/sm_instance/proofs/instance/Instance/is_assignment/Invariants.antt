@@ -1,5 +1,5 @@
 use Rattle.std.proofs.Common.{◌≡◌, ℕ, ◌<◌, Some, length}
-use Rattle.sm_instance.specs.Written.{row}
+use Rattle.sm_agents.specs.Written.{row}
 use Rattle.sm_instance.specs.Matching.{held}
 use Rattle.sm_instance.proofs.instance.Instance.is_assignment.Given as goal
 

@@ -1,6 +1,6 @@
 use Rattle.std.proofs.Common.{◌<◌, List, Option, IfSome, length, subst, sym}
-use Rattle.sm_instance.specs.Written.{Written}
-use Rattle.sm_instance.specs.Vectors.{agents_of}
+use Rattle.sm_agents.specs.Written.{Written}
+use Rattle.sm_agents.specs.Vectors.{agents_of}
 use Rattle.sm_instance.specs.Crosses.{AreCrossesOf}
 use Rattle.sm_instance.specs.Namings.{AreAskedOf, all_asked}
 use Rattle.sm_instance.specs.declared.crosses.Crosses.{Crosses}

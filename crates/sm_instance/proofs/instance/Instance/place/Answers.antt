@@ -1,6 +1,6 @@
 use Rattle.std.proofs.Common.{◌≡◌, ◌<◌, List, Option, IfSome, length, subst, sym}
-use Rattle.sm_instance.specs.Written.{Written}
-use Rattle.sm_instance.specs.Vectors.{agents_of}
+use Rattle.sm_agents.specs.Written.{Written}
+use Rattle.sm_agents.specs.Vectors.{agents_of}
 use Rattle.sm_instance.specs.Crosses.{cross_place, AreNamingsOf, AreCrossesOf}
 use Rattle.sm_instance.specs.declared.crosses.Crosses.{Crosses}
 use Rattle.sm_lists.specs.declared.compact_naming.CompactNaming.{CompactNaming}

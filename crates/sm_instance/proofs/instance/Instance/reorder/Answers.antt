@@ -1,6 +1,6 @@
 use Rattle.std.proofs.Common.{arith}
 use Rattle.sm_lists.proofs.OrderLemmas.{each_once_long}
-use Rattle.sm_instance.proofs.AgentLemmas.{length-agents}
+use Rattle.sm_agents.proofs.AgentLemmas.{length-agents}
 use Rattle.sm_instance.proofs.instance.Instance.reorder.Goals as goal
 
 pub copy_from_slice-requires : goal.copy_from_slice-requires

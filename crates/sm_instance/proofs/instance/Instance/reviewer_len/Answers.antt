@@ -1,6 +1,6 @@
 use Rattle.std.proofs.Common.{ap, ◌∙◌}
-use Rattle.sm_instance.specs.Written.{row}
-use Rattle.sm_instance.specs.Vectors.{agents_of}
+use Rattle.sm_agents.specs.Written.{row}
+use Rattle.sm_agents.specs.Vectors.{agents_of}
 use Rattle.sm_instance.proofs.PlaceLemmas.{length-list-le}
 use Rattle.sm_instance.proofs.instance.Instance.reviewer_len.Goals as goal
 

@@ -1,7 +1,7 @@
 use Rattle.std.proofs.Common.{◌+ℤ◌, pos, sym, ap, ◌∙◌, arith}
 use Rattle.std.proofs.lemmas.Int.{ints, to_z-of_z}
 use Rattle.sm_instance.specs.Matching.{held}
-use Rattle.sm_instance.specs.Written.{second_weight}
+use Rattle.sm_agents.specs.Written.{second_weight}
 use Rattle.sm_instance.specs.Ranks.{pair_second}
 use Rattle.sm_instance.proofs.RankLemmas.{fold_below_more}
 use Rattle.sm_instance.proofs.instance.Instance.weigh_second.Goals as goal

@@ -1,7 +1,7 @@
 use Rattle.std.proofs.Common.{◌≡◌, ℕ, ◌<◌, List, length, sym, ap, subst, ◌∙◌, arith}
 use Rattle.std.proofs.lemmas.List.FromFn.{get_or-map-range_with_len, length-map-range_with_len}
 use Rattle.sm_lists.specs.CompactNamings.{no_naming, naming_at}
-use Rattle.sm_instance.specs.Written.{AgentData}
+use Rattle.sm_agents.specs.Written.{AgentData}
 use Rattle.sm_instance.specs.Namings.{asked, asked_at, all_asked}
 use Rattle.sm_instance.specs.declared.namings.Namings.{Namings}
 use Rattle.sm_instance.proofs.namings.Namings.at.Goals as goal

@@ -1,5 +1,5 @@
 use Rattle.std.proofs.Common.{◌≡◌, ◌+◌, ◌<◌, ◌∙◌, ap, sym, arith, refl, set, length, Some, None, ℕ}
-use Rattle.sm_instance.specs.Written.{capacity_of}
+use Rattle.sm_agents.specs.Written.{capacity_of}
 use Rattle.sm_instance.specs.Matching.{held, load}
 use Rattle.sm_pairs.specs.Holding.{taken, full, loads_of}
 use Rattle.sm_pairs.proofs.HoldingLemmas.{loads_long, load_is, some_there, none_there, loads_later, matching_later}

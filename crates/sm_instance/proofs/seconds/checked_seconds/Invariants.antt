@@ -1,6 +1,0 @@
-use Rattle.sm_instance.specs.Checks.{AreGiven}
-use Rattle.sm_instance.proofs.seconds.checked_seconds.Given as goal
-
--- the items so far are sound, and are given to their pairs
-abbrev pub invariant-loop-n : goal.invariant-loop-n
-invariant-loop-n l = AreGiven l.pairs l.seconds l.n l.given.items
