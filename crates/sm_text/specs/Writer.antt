@@ -1,15 +1,10 @@
 -- What a `LineWriter` holds.
-use Rattle.std.specs.Prelude.{◌≡◌, ℕ, ◌+◌, ◌≤◌, List, ◌++◌, length, vec_capacity, Result, IsOk, OnErr, OnOk}
-use Rattle.std.specs.Global.{Vec}
+use Rattle.std.specs.Prelude.{◌≡◌, ℕ, ◌+◌, ◌≤◌, List, ◌++◌, length, Result, IsOk, OnErr, OnOk}
 
 -- the bytes, and how many it has room for without more memory
 pub record WriterData : Type 0 where
   pub bytes : List ℕ
   pub room : ℕ
-
--- what a vector holds
-abbrev pub held_in : Vec ℕ → WriterData
-held_in bytes = record { bytes = bytes.items; room = vec_capacity bytes }
 
 -- a piece was put behind what was held, or the put was refused and left all as it was; the room never shrinks
 pub record PutsPiece {E : Type 0} (old new : WriterData) (piece : List ℕ) (result : Result (Unit {0}) E) : Type 0 where

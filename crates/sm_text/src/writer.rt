@@ -1,7 +1,6 @@
 //! A writer of lines.
 
-ghost use Rattle.std.specs.Prelude.{◌≡◌, ◌≤◌, ◌<◌, ◌+◌, ◌-◌, ◌++◌, ◌∷◌, [], length, take, drop, decimal, IfOk};
-ghost use Rattle.sm_text.specs.Writer.{PutsPiece, held_in};
+ghost use Rattle.std.specs.Prelude.{◌≡◌, ◌≤◌, ◌<◌, ◌++◌, ◌∷◌, [], length, drop, decimal, IfOk};
 
 use std::alloc::{AllocError, Global};
 use std::marker::Model;
@@ -15,16 +14,18 @@ pub struct LineWriter {
 }
 
 impl Model for LineWriter {
-    ghost use Rattle.sm_text.specs.Writer.{WriterData, held_in};
+    ghost use Rattle.std.specs.Prelude.{vec_capacity};
+    ghost use Rattle.sm_text.specs.Writer.{WriterData};
 
     ghost Value = { WriterData };
 
-    ghost view = { λ w. held_in w.bytes };
+    ghost view = { λ w. record { bytes = w.bytes.items; room = vec_capacity w.bytes } };
 }
 
 impl LineWriter {
     ghost use Rattle.std.specs.Prelude.{vec_capacity};
     ghost use Rattle.std.specs.Fmt.{signed_decimal};
+    ghost use Rattle.sm_text.specs.Writer.{PutsPiece};
 
     /// An empty writer with room for `room` bytes. Takes constant time, and memory for that room.
     ///
@@ -64,22 +65,16 @@ impl LineWriter {
     }
 
     /// Puts bytes behind what it holds. Takes time in proportion to them; where the room has to grow, memory and time in
-    /// proportion to what it holds. Always inlined, so that nothing is decided by a length that is known.
+    /// proportion to what it holds.
     ///
     /// # Errors
     ///
     /// `AllocError` where memory ran out, and only then; never where the bytes fit the room that is left. It then holds what
     /// it held, and its room is no smaller.
-    #[inline(always)]
     pub fn put_bytes(&mut self, piece: &[u8]) -> Result<(), AllocError>
         ensures { PutsPiece self.old self.new piece.now result }
     {
-        match piece.len() {
-            2..=4 => put_ends::<2>(&mut self.bytes, piece),
-            5..=8 => put_ends::<4>(&mut self.bytes, piece),
-            9..=16 => put_ends::<8>(&mut self.bytes, piece),
-            _ => self.bytes.extend_from_slice(piece),
-        }
+        self.bytes.extend_from_slice(piece)
     }
 
     /// Puts one byte behind what it holds. Takes constant time; where the room has to grow, what [`LineWriter::put_bytes`]
@@ -128,38 +123,6 @@ impl LineWriter {
         text[start] = b'-';
         self.put_bytes(&text[start..])
     }
-}
-
-/// Puts N to twice as many bytes behind others: the first N, and then the last N over what is too much. Each N are put at once, where a
-/// piece of any length is put by a call.
-#[inline(always)]
-fn put_ends<const N: usize>(bytes: &mut Vec<u8>, piece: &[u8]) -> Result<(), AllocError>
-    requires enough { N ≤ length piece.now }
-    requires few { length piece.now ≤ N + N }
-    ensures { PutsPiece (held_in bytes.old) (held_in bytes.new) piece.now result }
-{
-    bytes.reserve(piece.len())?;
-    let from = bytes.len() + (piece.len() - N);
-    bytes.extend_from_slice(first_of::<N>(piece)).unwrap();
-    bytes.truncate(from);
-    bytes.extend_from_slice(last_of::<N>(piece)).unwrap();
-    Ok(())
-}
-
-/// The first N bytes.
-fn first_of<const N: usize>(piece: &[u8]) -> &[u8; N]
-    requires { N ≤ length piece.now }
-    ensures { result.now ≡ take N piece.now }
-{
-    piece.first_chunk().unwrap()
-}
-
-/// The last N bytes.
-fn last_of<const N: usize>(piece: &[u8]) -> &[u8; N]
-    requires { N ≤ length piece.now }
-    ensures { result.now ≡ drop (length piece.now - N) piece.now }
-{
-    piece.last_chunk().unwrap()
 }
 
 /// How many digits the greatest `u64` has.
