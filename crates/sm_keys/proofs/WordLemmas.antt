@@ -4,7 +4,7 @@ use Rattle.std.specs.Int.{from_le_bytes, to_le_bytes, w64}
 use Rattle.std.specs.Str.{bytes_eq}
 use Rattle.std.proofs.lemmas.Bool.{false≢true, cases_lt}
 use Rattle.std.proofs.lemmas.Bool.Decides.{nat_tests}
-use Rattle.std.proofs.lemmas.List.{get_or_past, get_or_append_left, get_or-append_right, get_or-replicate, length-append, length-replicate, drop-replicate, take-take, take-append-le, take_all}
+use Rattle.std.proofs.lemmas.List.{get_or_past, get_or_append_left, get_or-append_right, get_or-replicate, length-append, length-replicate, take-take, take-append-le, take_all}
 use Rattle.std.proofs.lemmas.Nat.{le_bytes_4, le_bytes_8, mod-mul-add}
 use Rattle.sm_keys.specs.Words.{IsWordOf, HasWord, word_of}
 use Rattle.sm_keys.proofs.TextLemmas.{same_text, other_text}
@@ -131,15 +131,56 @@ module _ (a : List ℕ) (bytes : (i : ℕ) → get_or a i 0 < 256) (few : length
   told n is = ap (take (length a)) (le_bytes_8 padded n eight padded_small (is ∙ sym padded_number))
       ∙ take-append-le (length a) a (replicate (8 - length a) 0) (omega arith) ∙ take_all (length a) a (omega arith)
 
-  -- the number of the name with zeros behind it
-  pub with_zeros : (number : ℕ) (copied : List ℕ) → copied ≡ a → number ≡ from_le_bytes w64 (copied ++ drop (length a) (0 ∷ 0 ∷ 0 ∷ 0 ∷ 0 ∷ 0 ∷ 0 ∷ 0 ∷ [])) → HasWord number a
-  with_zeros number copied same is = record {
-    bytes = padded;
-    are_eight = eight;
-    small = padded_small;
-    number = is ∙ ap (λ xs. from_le_bytes w64 (xs ++ drop (length a) (0 ∷ 0 ∷ 0 ∷ 0 ∷ 0 ∷ 0 ∷ 0 ∷ 0 ∷ []))) same ∙ ap (λ xs. from_le_bytes w64 (a ++ xs)) (drop-replicate (length a) 8 0);
-    begins = take-append-le (length a) a (replicate (8 - length a) 0) (omega arith) ∙ take_all (length a) a (omega arith);
-  }
+-- the word of one to eight bytes is the number of eight, with zeros before them
+module _ (name : List ℕ) where
+  abbrev a : ℕ → ℕ
+  a i = get_or name i 0
+
+  past_end : (i : ℕ) → length name ≤ i → a i ≡ 0
+  past_end i h = get_or_past name i 0 h
+
+  at_exponent : (n : ℕ) → length name ≡ n → from_le_bytes w64 name * 2 ^ (64 - 8 * n) ≡ word_of name
+  at_exponent n len = ap (λ k. from_le_bytes w64 name * 2 ^ (64 - 8 * k)) (sym len)
+
+  pub one_at_top : length name ≡ 1 → from_le_bytes w64 (0 ∷ 0 ∷ 0 ∷ 0 ∷ 0 ∷ 0 ∷ 0 ∷ a 0 ∷ []) ≡ word_of name
+  one_at_top len =
+      let moved_up : from_le_bytes w64 (0 ∷ 0 ∷ 0 ∷ 0 ∷ 0 ∷ 0 ∷ 0 ∷ a 0 ∷ []) ≡ from_le_bytes w64 name * 2 ^ 56 = omega (arith, past_end 1 (omega (arith, len)), past_end 2 (omega (arith, len)), past_end 3 (omega (arith, len)), past_end 4 (omega (arith, len)), past_end 5 (omega (arith, len)), past_end 6 (omega (arith, len)), past_end 7 (omega (arith, len))) in
+      moved_up ∙ at_exponent 1 len
+
+  pub two_at_top : length name ≡ 2 → from_le_bytes w64 (0 ∷ 0 ∷ 0 ∷ 0 ∷ 0 ∷ 0 ∷ a 0 ∷ a 1 ∷ []) ≡ word_of name
+  two_at_top len =
+      let moved_up : from_le_bytes w64 (0 ∷ 0 ∷ 0 ∷ 0 ∷ 0 ∷ 0 ∷ a 0 ∷ a 1 ∷ []) ≡ from_le_bytes w64 name * 2 ^ 48 = omega (arith, past_end 2 (omega (arith, len)), past_end 3 (omega (arith, len)), past_end 4 (omega (arith, len)), past_end 5 (omega (arith, len)), past_end 6 (omega (arith, len)), past_end 7 (omega (arith, len))) in
+      moved_up ∙ at_exponent 2 len
+
+  pub three_at_top : length name ≡ 3 → from_le_bytes w64 (0 ∷ 0 ∷ 0 ∷ 0 ∷ 0 ∷ a 0 ∷ a 1 ∷ a 2 ∷ []) ≡ word_of name
+  three_at_top len =
+      let moved_up : from_le_bytes w64 (0 ∷ 0 ∷ 0 ∷ 0 ∷ 0 ∷ a 0 ∷ a 1 ∷ a 2 ∷ []) ≡ from_le_bytes w64 name * 2 ^ 40 = omega (arith, past_end 3 (omega (arith, len)), past_end 4 (omega (arith, len)), past_end 5 (omega (arith, len)), past_end 6 (omega (arith, len)), past_end 7 (omega (arith, len))) in
+      moved_up ∙ at_exponent 3 len
+
+  pub four_at_top : length name ≡ 4 → from_le_bytes w64 (0 ∷ 0 ∷ 0 ∷ 0 ∷ a 0 ∷ a 1 ∷ a 2 ∷ a 3 ∷ []) ≡ word_of name
+  four_at_top len =
+      let moved_up : from_le_bytes w64 (0 ∷ 0 ∷ 0 ∷ 0 ∷ a 0 ∷ a 1 ∷ a 2 ∷ a 3 ∷ []) ≡ from_le_bytes w64 name * 2 ^ 32 = omega (arith, past_end 4 (omega (arith, len)), past_end 5 (omega (arith, len)), past_end 6 (omega (arith, len)), past_end 7 (omega (arith, len))) in
+      moved_up ∙ at_exponent 4 len
+
+  pub five_at_top : length name ≡ 5 → from_le_bytes w64 (0 ∷ 0 ∷ 0 ∷ a 0 ∷ a 1 ∷ a 2 ∷ a 3 ∷ a 4 ∷ []) ≡ word_of name
+  five_at_top len =
+      let moved_up : from_le_bytes w64 (0 ∷ 0 ∷ 0 ∷ a 0 ∷ a 1 ∷ a 2 ∷ a 3 ∷ a 4 ∷ []) ≡ from_le_bytes w64 name * 2 ^ 24 = omega (arith, past_end 5 (omega (arith, len)), past_end 6 (omega (arith, len)), past_end 7 (omega (arith, len))) in
+      moved_up ∙ at_exponent 5 len
+
+  pub six_at_top : length name ≡ 6 → from_le_bytes w64 (0 ∷ 0 ∷ a 0 ∷ a 1 ∷ a 2 ∷ a 3 ∷ a 4 ∷ a 5 ∷ []) ≡ word_of name
+  six_at_top len =
+      let moved_up : from_le_bytes w64 (0 ∷ 0 ∷ a 0 ∷ a 1 ∷ a 2 ∷ a 3 ∷ a 4 ∷ a 5 ∷ []) ≡ from_le_bytes w64 name * 2 ^ 16 = omega (arith, past_end 6 (omega (arith, len)), past_end 7 (omega (arith, len))) in
+      moved_up ∙ at_exponent 6 len
+
+  pub seven_at_top : length name ≡ 7 → from_le_bytes w64 (0 ∷ a 0 ∷ a 1 ∷ a 2 ∷ a 3 ∷ a 4 ∷ a 5 ∷ a 6 ∷ []) ≡ word_of name
+  seven_at_top len =
+      let moved_up : from_le_bytes w64 (0 ∷ a 0 ∷ a 1 ∷ a 2 ∷ a 3 ∷ a 4 ∷ a 5 ∷ a 6 ∷ []) ≡ from_le_bytes w64 name * 2 ^ 8 = omega (arith, past_end 7 (omega (arith, len))) in
+      moved_up ∙ at_exponent 7 len
+
+  pub eight_at_top : length name ≡ 8 → from_le_bytes w64 (a 0 ∷ a 1 ∷ a 2 ∷ a 3 ∷ a 4 ∷ a 5 ∷ a 6 ∷ a 7 ∷ []) ≡ word_of name
+  eight_at_top len =
+      let moved_up : from_le_bytes w64 (a 0 ∷ a 1 ∷ a 2 ∷ a 3 ∷ a 4 ∷ a 5 ∷ a 6 ∷ a 7 ∷ []) ≡ from_le_bytes w64 name * 2 ^ 0 = omega (arith) in
+      moved_up ∙ at_exponent 8 len
 
 -- the number of eight bytes that stand at a place of a line, of which the first are a name
 pub number_there : (line : List ℕ) (at len number : ℕ) → ((i : ℕ) → get_or line i 0 < 256) → at + 8 ≤ length line → len ≤ 8

@@ -139,9 +139,17 @@ fn short_word(text: &[u8]) -> u64
     requires few { length text.now ≤ 8 }
     ensures { result ≡ word_of text.now }
 {
-    let mut first = [0; 8];
-    first[..text.len()].copy_from_slice(text);
-    at_top(u64::from_le_bytes(first), text.len())
+    u64::from_le_bytes(match *text {
+        [a] => [0, 0, 0, 0, 0, 0, 0, a],
+        [a, b] => [0, 0, 0, 0, 0, 0, a, b],
+        [a, b, c] => [0, 0, 0, 0, 0, a, b, c],
+        [a, b, c, d] => [0, 0, 0, 0, a, b, c, d],
+        [a, b, c, d, e] => [0, 0, 0, a, b, c, d, e],
+        [a, b, c, d, e, f] => [0, 0, a, b, c, d, e, f],
+        [a, b, c, d, e, f, g] => [0, a, b, c, d, e, f, g],
+        [a, b, c, d, e, f, g, h] => [a, b, c, d, e, f, g, h],
+        _ => unreachable!(),
+    })
 }
 
 /// A number whose lowest bytes, so many, stand at its top instead.

@@ -57,8 +57,8 @@ pub fn line_from<'a>(bytes: &'a [u8], from: usize) -> Option<(&'a [u8], usize)>
     Some((&bytes[start..stop], next))
 }
 
-/// The word, the name and the colon with which a line begins, and `None` where it begins in another way or is a long line. Takes time
-/// in their length.
+/// The word of one byte, the name and the colon with which a line begins, and `None` where it begins in another way or is a long line.
+/// Takes time in their length, and in that of the first token alone where it is no such word.
 pub fn head_of<'a>(line: &'a [u8]) -> Option<Head<'a>>
     ensures { IfSome result (λ head. BeginsList line.now head.word.now head.name.now head.list.now) }
 {
@@ -66,9 +66,12 @@ pub fn head_of<'a>(line: &'a [u8]) -> Option<Head<'a>>
         return None;
     }
     let word = token_from(line, 0)?;
+    if !word.name || word.stop - word.start > 1 {
+        return None;
+    }
     let name = token_from(line, word.stop)?;
     let colon = token_from(line, name.stop)?;
-    if word.name && name.name && is(&line[colon.start..colon.stop], b":") {
+    if name.name && is(&line[colon.start..colon.stop], b":") {
         Some(Head {
             word: &line[word.start..word.stop],
             name: &line[name.start..name.stop],
