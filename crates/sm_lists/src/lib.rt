@@ -33,4 +33,4 @@ pub use place::KeptPlace;
 pub use places::first_place;
 pub use raised_rows::RaisedRows;
 pub use rows::Rows;
-pub use vectors::{copy_of, entry_at, lent, list_at};
+pub use vectors::{entry_at, lent, list_at};

@@ -5,21 +5,6 @@ ghost use Rattle.sm_lists.specs.Rows.{rows_of, row, entry, lists_in};
 
 use std::alloc::{AllocError, Global};
 
-/// A copy of the lists. Takes time and memory in proportion to the lists and their entries.
-///
-/// # Errors
-///
-/// `AllocError` where memory ran out, and only then.
-pub fn copy_of(alloc: Global, rows: &[Vec<u32>]) -> Result<Vec<Vec<u32>>, AllocError>
-    ensures { IfOk result (λ copy. rows_of copy.items ≡ rows_of rows.now) }
-{
-    let mut copy = Vec::with_capacity(alloc, rows.len())?;
-    for row in rows {
-        copy.push(Vec::from_slice(alloc, row)?)?;
-    }
-    Ok(copy)
-}
-
 /// The lists, lent one by one. Takes time and memory in proportion to the agents.
 ///
 /// # Errors
