@@ -20,6 +20,7 @@ use sm_theory::would_take;
 ///
 /// Takes no memory, and constant time but for the entries that are passed. Over all calls along a chain of rotations each
 /// entry of the market is passed at most once (Gusfield and Irving 1989, section 3.2).
+#[inline(always)]
 pub fn next_proposer(market: &Market, m: &Pairing, p: u32, from: &mut [u32]) -> Option<u32>
     requires in_range { p < length market.now.proposers }
     requires made { IsPairingOf market.now m.now }
@@ -49,6 +50,7 @@ pub fn next_proposer(market: &Market, m: &Pairing, p: u32, from: &mut [u32]) -> 
 /// Proposers and places are numbered from 0. An unmatched proposer's partner stands past the end of its list. Takes no
 /// memory, and time in proportion to the entries that are passed: those behind the partner and from `from` on (Gusfield and
 /// Irving 1989, section 3.2).
+#[inline(always)]
 pub fn first_taker(market: &Market, m: &Pairing, p: u32, from: u32) -> u32
     requires in_range { p < length market.now.proposers }
     requires made { IsPairingOf market.now m.now }
