@@ -1,12 +1,14 @@
 //! The lists with which lines end, which are written `-` where they are empty.
 
-ghost use Rattle.std.specs.Prelude.{◌≡◌, ◌<◌, [], length, slice_index_or};
+ghost use Rattle.std.specs.Prelude.{◌≡◌, ◌<◌, [], ◌∷◌, length, slice_index_or};
 ghost use Rattle.sm_report.specs.Fields.{spaced};
 ghost use Rattle.sm_report.specs.Items.{fields_of_items, each_of, AreNamed};
 ghost use Rattle.sm_report.specs.Putting.{PutsText};
+ghost use Rattle.sm_report.specs.Sound.{ArePair};
+ghost use Rattle.sm_report.specs.Texts.{left_name, seat_text};
 ghost use Rattle.sm_instance.specs.declared.inputs.Input.{Input};
 
-use crate::fields::{Field, put_field, put_fields};
+use crate::fields::{Field, put_field};
 use crate::lines::Seat;
 use sm_instance::Input;
 use sm_text::LineWriter;
@@ -72,13 +74,19 @@ fn put_item(
         at [])) result }
 {
     match items {
-        Items::Lefts(list) => put_fields(into, input, &[Field::Left(list[at])]),
-        Items::Seats(list) => put_fields(into, input, &[Field::At(list[at])]),
-        Items::Pairs(list) => {
-            let (p, seat) = list[at];
-            put_fields(into, input, &[Field::Left(p), Field::At(seat)])
-        }
-        Items::Numbers(list) => put_fields(into, input, &[Field::Number(u64::from(list[at]))]),
-        Items::Figures(list) => put_fields(into, input, &[Field::Number(list[at])]),
+        Items::Lefts(list) => put_field(into, input, Field::Left(list[at])),
+        Items::Seats(list) => put_field(into, input, Field::At(list[at])),
+        Items::Pairs(list) => put_pair(into, input, list[at]),
+        Items::Numbers(list) => put_field(into, input, Field::Number(u64::from(list[at]))),
+        Items::Figures(list) => put_field(into, input, Field::Number(list[at])),
     }
+}
+
+/// Puts a proposer and a seat.
+fn put_pair(into: &mut LineWriter, input: &Input, pair: (u32, Seat)) -> Result<(), AllocError>
+    requires { ArePair input.now pair.0 pair.1.reviewer }
+    ensures { PutsText into.old into.new (spaced (left_name input.now pair.0 ∷ seat_text input.now pair.1 ∷ [])) result }
+{
+    put_field(into, input, Field::Left(pair.0))?;
+    put_field(into, input, Field::At(pair.1))
 }
