@@ -1,6 +1,6 @@
 //! Pairs of a proposer and a reviewer, each with its number.
 
-ghost use Rattle.std.specs.Prelude.{◌≡◌, ◌≢◌, ℕ, ◌<◌, ◌^◌, [], ◌++◌, ◌∷◌, map, length, not, position, if◌then◌else◌, IfOk};
+ghost use Rattle.std.specs.Prelude.{◌≡◌, ◌≢◌, ℕ, ◌<◌, ◌^◌, [], ◌++◌, ◌∷◌, map, length, not, position, if◌then◌else◌, IfOk, IfErr};
 ghost use Rattle.std.specs.List.{list_any};
 ghost use Rattle.sm_agents.specs.Written.{is_same_pair, weighed};
 ghost use Rattle.sm_lists.specs.Pairs.{pair_at};
@@ -67,16 +67,17 @@ impl Pairs {
     ///
     /// # Errors
     ///
-    /// `AllocError` where memory ran out.
+    /// `AllocError` where memory ran out, and only then. The pairs are then as they were.
     pub fn add(&mut self, pair: (u32, u32)) -> Result<bool, AllocError>
         ensures added { IfOk result (λ added. added ≡ not (list_any (is_same_pair pair) self.old)) }
         ensures pairs { IfOk result
             (λ added. self.new ≡ (if added then self.old ++ pair ∷ [] else self.old)) }
+        ensures refused { IfErr result (λ _. self.new ≡ self.old) }
     {
         Ok(self.pairs.insert(pair)?)
     }
 
-    /// The hashes by which pairs are found. Takes constant time.
+    /// The hashes by which pairs are found, as they were given. They decide nothing but how fast that is. Takes constant time.
     pub fn hash(&self) -> TextHash {
         *self.pairs.hasher()
     }

@@ -50,7 +50,8 @@ impl<'a> CrossSearch<'a> {
     }
 
     /// The place of proposer `p` on the list of the reviewer at `place` of `p`'s list; `None` where it isn't on it, so that the
-    /// entry is inert. All calls together take time and memory in proportion to the calls, agents and entries.
+    /// entry is inert. A call takes constant time once cross places are at hand, and till then time in the length of
+    /// the reviewer's list. All calls together take time and memory in proportion to the calls, agents and entries.
     ///
     /// # Errors
     ///

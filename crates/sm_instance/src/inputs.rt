@@ -29,7 +29,8 @@ impl Input {
         }
     }
 
-    /// Keeps cross places from now on, as [`Instance::keep_crosses`] does. Does nothing for roommates.
+    /// Keeps cross places from now on, as [`Instance::keep_crosses`] does. Does nothing for roommates. Takes time and memory in
+    /// proportion to the agents and entries, or constant time where they are kept.
     ///
     /// # Errors
     ///
@@ -44,7 +45,7 @@ impl Input {
     }
 
     /// Keeps tables of names from now on, as [`Instance::keep_names`] does. Does nothing for roommates, whose names are always
-    /// kept.
+    /// kept. Takes time and memory in proportion to the agents, or constant time where they are kept.
     ///
     /// # Errors
     ///
