@@ -41,7 +41,7 @@ added_cases P (x ∷ xs) y d here there zero = there 0 (λ e. absurd (omega (ari
 added_cases P (x ∷ xs) y d here there (suc j) = added_cases (λ k. P (suc k)) xs y d here (λ k ne. there (suc k) (λ e. ne (omega (arith, e)))) j
 
 -- the list at an index is that of the slot there
-list_read : {T : Type 0} (items : List T) (slots : List Slot) (a : ℕ) → get_or (packed_lists items slots) a [] ≡ packed_list items (get_or slots a no_slot)
+pub list_read : {T : Type 0} (items : List T) (slots : List Slot) (a : ℕ) → get_or (packed_lists items slots) a [] ≡ packed_list items (get_or slots a no_slot)
 list_read items [] a = refl
 list_read items (r ∷ slots) zero = refl
 list_read items (r ∷ slots) (suc a) = list_read items slots a
@@ -96,7 +96,7 @@ list_moved old new r others ordered within =
     ∙ take-append-le (filled_in r) (drop r.start old) rest (omega arith)
 
 -- one more item on a list whose slot r isn't full
-lists_added : {T : Type 0} (items : List T) (slots : List Slot) (a : ℕ) (r s : Slot) (x : T) → AreSlots (length items) slots → get_or slots a no_slot ≡ r → r.end < r.limit
+pub lists_added : {T : Type 0} (items : List T) (slots : List Slot) (a : ℕ) (r s : Slot) (x : T) → AreSlots (length items) slots → get_or slots a no_slot ≡ r → r.end < r.limit
     → s.start ≡ r.start → s.end ≡ r.end + 1 → packed_lists (set items r.end x) (set slots a s) ≡ set (packed_lists items slots) a (packed_list items r ++ x ∷ [])
 lists_added items slots a r s x h is space start end =
     let ordered : r.start ≤ r.end = subst (λ (q : Slot). q.start ≤ q.end) is (h.ordered a) in

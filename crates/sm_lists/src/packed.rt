@@ -80,7 +80,24 @@ impl<T: Copy> Packed<T> {
             ≡ slice_set self.old a (slice_index_or self.old a [] ++ item ∷ [])) }
         ensures kept { OnErr result (self.new ≡ self.old) }
     {
-        let slot = with_space(&mut self.items, self.slots[a as usize], item)?;
+        let Slot { end, limit, .. } = self.slots[a as usize];
+        if end < limit {
+            self.items[end as usize] = item;
+            self.slots[a as usize].end = end + 1;
+            return Ok(());
+        }
+        self.push_moved(a, item)
+    }
+
+    /// Adds an item to an agent's list, which moves behind all others. Never inlined, so that a list with room pays nothing for it.
+    #[inline(never)]
+    fn push_moved(&mut self, a: u32, item: T) -> Result<(), AllocError>
+        requires { a < length self.old }
+        ensures pushed { OnOk result (self.new
+            ≡ slice_set self.old a (slice_index_or self.old a [] ++ item ∷ [])) }
+        ensures kept { OnErr result (self.new ≡ self.old) }
+    {
+        let slot = moved(&mut self.items, self.slots[a as usize], item)?;
         let Slot { start, end, limit } = slot;
         self.items[end as usize] = item;
         self.slots[a as usize] = Slot {
@@ -153,23 +170,6 @@ fn empty(slots: &mut [Slot])
 {
     for slot in slots.iter_mut() {
         slot.end = slot.start;
-    }
-}
-
-/// Room for one more item on a list, which moves behind all others where it has none. Always inlined, so that a list with room
-/// needs no call.
-#[inline(always)]
-fn with_space<T: Copy>(items: &mut Vec<T>, slot: Slot, item: T) -> Result<Slot, AllocError>
-    requires ordered { slot.start ≤ slot.end }
-    requires filled { slot.end ≤ slot.limit }
-    requires within { slot.limit ≤ length items.old.items }
-    ensures space { IfOk result (λ after. HasSpace items.old.items items.new.items slot after) }
-    ensures kept { OnErr result (items.new.items ≡ items.old.items) }
-{
-    if slot.end < slot.limit {
-        Ok(slot)
-    } else {
-        moved(items, slot, item)
     }
 }
 
