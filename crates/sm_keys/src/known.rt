@@ -7,7 +7,7 @@ ghost use Rattle.sm_keys.specs.Keys.{key_texts};
 ghost use Rattle.sm_keys.specs.Words.{HasWord};
 
 use crate::key::Key;
-use crate::recent::Recent;
+use crate::recent::Guesses;
 use crate::tokens::behind_blank;
 
 /// In each byte the highest bit.
@@ -19,7 +19,7 @@ const BEHIND_BLANK: u64 = 0x2121_2121_2121_2121;
 /// The names of one side, by index, with guesses at their indexes.
 #[derive(Clone, Copy)]
 pub(crate) struct Known<'b, 'a> {
-    pub(crate) recent: &'b Recent,
+    pub(crate) guesses: Guesses<'b>,
     pub(crate) names: &'b [Key<'a>],
 }
 
@@ -127,9 +127,9 @@ fn index_of(known: Known<'_, '_>, name: &[u8], first: u64) -> Option<u32>
         return None;
     }
     let key = Key::beginning(name, first);
-    match index_at(known, key, known.recent.guess(key.word, name.len())) {
+    match index_at(known, key, known.guesses.first(key.word, name.len())) {
         Some(index) => Some(index),
-        None => index_at(known, key, known.recent.second_guess(key.word, name.len())),
+        None => index_at(known, key, known.guesses.second(key.word, name.len())),
     }
 }
 

@@ -70,7 +70,7 @@ impl<'a> Names<'a> {
             text,
             texts,
             looked: 0,
-            recent: Recent::new(alloc)?,
+            recent: Recent::new(alloc),
             numbers: Vec::new(alloc),
             stamps: Vec::new(alloc),
             declared: Vec::new(alloc),
@@ -334,8 +334,11 @@ impl<'a> Names<'a> {
         ensures behind { from ≤ result }
         ensures room { vec_len indexes.new + (length line.now - result) ≤ vec_capacity indexes.new }
     {
+        let Some(guesses) = self.recent.guesses() else {
+            return from;
+        };
         let known = Known {
-            recent: &self.recent,
+            guesses,
             names: self.texts.as_slice(),
         };
         list_known(known, &mut self.stamps, line, from, stamp, indexes)

@@ -37,7 +37,7 @@ fn note(rt: &impl Abort, recent: &mut Recent, key: Key<'_>, index: u32, guess: u
 
 #[test]
 fn two_indexes_are_guessed(rt: HostRuntime) {
-    let mut recent = Recent::new(rt.alloc()).expect(&rt, MEMORY);
+    let mut recent = Recent::new(rt.alloc());
     let key = Key::of(b"w12");
     note(&rt, &mut recent, key, 7, 7);
     note(&rt, &mut recent, key, 9, 9);
