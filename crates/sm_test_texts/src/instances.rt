@@ -190,7 +190,7 @@ fn small_hospitals_are_worth(rt: HostRuntime) {
 }
 
 /// What a stable matching and another one are worth.
-fn are_worth(rt: &(impl Abort + AllocGlobal), instance: &Instance) {
+pub(crate) fn are_worth(rt: &(impl Abort + AllocGlobal), instance: &Instance) {
     is_worth(
         rt,
         instance,

@@ -1,5 +1,6 @@
 //! A text that is read and texts that are refused. What texts mean stands in the witnesses of `sm_reader`.
 
+use crate::instances::are_worth;
 use sm_instance::{Input, Instance, Kind};
 use sm_reader::{Read, TextFault, read_instance};
 use sm_text::RefusalKind;
@@ -84,4 +85,28 @@ fn has_capacities(rt: &impl Abort, instance: &Instance) {
     assert!(rt; instance.reviewer_count() == 2);
     assert!(rt; instance.capacity(0) == 2);
     assert!(rt; instance.capacity(1) == 1);
+}
+
+/// The hospitals of `instances`, as a text.
+const SMALL_HOSPITALS: &[u8] = b"stable 1 hospitals
+p a: k h
+p b: z h
+p c: h k
+r h [2]: c a b
+r k [1]: a
+r z [0]: b
+weight a h 4
+weight c h -10
+force a h
+forbid b h
+end
+";
+
+#[test]
+fn hospitals_that_keep_no_cross_places_are_worth_the_same(rt: HostRuntime) {
+    let read = read_instance(rt.alloc(), SMALL_HOSPITALS).expect(&rt, "an instance");
+    match &read.input {
+        Input::Two(instance) => are_worth(&rt, instance),
+        Input::Room(_) => panic!(&rt; "persons"),
+    }
 }
