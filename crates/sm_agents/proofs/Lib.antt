@@ -4,3 +4,4 @@ pub mod ItemLemmas
 pub mod FaultLemmas
 pub mod NonzeroLemmas
 pub mod SecondLemmas
+pub mod SpacedLemmas

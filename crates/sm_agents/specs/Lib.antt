@@ -6,3 +6,4 @@ pub mod Checks
 pub mod Named
 pub mod Names
 pub mod Nonzero
+pub mod Spaced

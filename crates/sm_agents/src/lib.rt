@@ -13,6 +13,7 @@ mod names;
 mod pairs;
 mod parts;
 mod seconds;
+mod spaced_sides;
 
 pub use agents::{Agent, Assignment, capacity_at, count_entries, list_at, name_at};
 pub use checks::{are_within_limits, check_entries, checked, checked_names};
@@ -22,3 +23,4 @@ pub use names::{NameTables, find_named, name_tables, names_for};
 pub use pairs::Pairs;
 pub use parts::Parts;
 pub use seconds::{checked_seconds, has_nonzero, set_seconds};
+pub use spaced_sides::{SpacedSides, put_name_at, spaced_names};

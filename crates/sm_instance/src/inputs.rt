@@ -3,6 +3,7 @@
 use crate::instance::Instance;
 use crate::persons::Persons;
 use sm_agents::{Kind, name_at};
+use sm_text::LineWriter;
 use std::alloc::AllocError;
 
 /// An instance with two sides, or one of roommates.
@@ -13,7 +14,8 @@ pub enum Input {
 }
 
 impl Input {
-    ghost use Rattle.std.specs.Prelude.{◌≡◌, ◌<◌, length, position, IfSome};
+    ghost use Rattle.std.specs.Prelude.{◌≡◌, ◌<◌, ◌∷◌, length, position, IfSome};
+    ghost use Rattle.sm_text.specs.Writer.{PutsPiece};
     ghost use Rattle.std.specs.Str.{bytes_eq};
     ghost use Rattle.sm_agents.specs.Written.{agent_at, names_of};
     ghost use Rattle.sm_instance.specs.Inputs.{IsInput, kind_of, left_of, right_of};
@@ -78,6 +80,38 @@ impl Input {
         match self {
             Input::Two(instance) => name_at(instance.reviewers(), at),
             Input::Room(persons) => name_at(persons.persons(), at),
+        }
+    }
+
+    /// Puts a space and the name of a proposer, in roommates of a person, behind what a writer holds. Takes what
+    /// [`LineWriter::put_name`] takes.
+    ///
+    /// # Errors
+    ///
+    /// As [`LineWriter::put_name`].
+    pub fn put_left_name(&self, into: &mut LineWriter, at: u32) -> Result<(), AllocError>
+        requires { at < length (left_of self.now) }
+        ensures { PutsPiece into.old into.new (32 ∷ (agent_at (left_of self.now) at).name) result }
+    {
+        match self {
+            Input::Two(instance) => instance.put_proposer(into, at),
+            Input::Room(persons) => persons.put_person(into, at),
+        }
+    }
+
+    /// Puts a space and the name of a reviewer, in roommates of a person, behind what a writer holds. Takes what
+    /// [`LineWriter::put_name`] takes.
+    ///
+    /// # Errors
+    ///
+    /// As [`LineWriter::put_name`].
+    pub fn put_right_name(&self, into: &mut LineWriter, at: u32) -> Result<(), AllocError>
+        requires { at < length (right_of self.now) }
+        ensures { PutsPiece into.old into.new (32 ∷ (agent_at (right_of self.now) at).name) result }
+    {
+        match self {
+            Input::Two(instance) => instance.put_reviewer(into, at),
+            Input::Room(persons) => persons.put_person(into, at),
         }
     }
 

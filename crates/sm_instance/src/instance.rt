@@ -1,10 +1,10 @@
 //! Instances with two sides.
 
-ghost use Rattle.std.specs.Prelude.{◌≡◌, ◌≢◌, ℕ, ◌+◌, ◌<◌, ◌≤◌, ◌^◌, ◌↔◌, IsTrue, IfSome, length, map, position, IfOk, IfErr, OnOk, OnErr};
+ghost use Rattle.std.specs.Prelude.{◌≡◌, ◌≢◌, ℕ, ◌+◌, ◌<◌, ◌≤◌, ◌^◌, ◌↔◌, ◌∷◌, IsTrue, IfSome, length, map, position, IfOk, IfErr, OnOk, OnErr};
 ghost use Rattle.std.specs.Str.{bytes_eq};
 ghost use Rattle.std.specs.Int.RustNames.{unsigned_abs};
 ghost use Rattle.sm_text.specs.Limits.{most_agents, most_capacity, most_weight};
-ghost use Rattle.sm_agents.specs.Written.{row, entry, names_of, capacity_of, IsAcceptable, given_weight, second_weight, seconds_among, weighed as weighed_pair};
+ghost use Rattle.sm_agents.specs.Written.{agent_at, row, entry, names_of, capacity_of, IsAcceptable, given_weight, second_weight, seconds_among, weighed as weighed_pair};
 ghost use Rattle.sm_agents.specs.Vectors.{agents_of, written_from, written_in};
 ghost use Rattle.sm_instance.specs.Ranks.{HasSeconds};
 ghost use Rattle.sm_agents.specs.Sound.{IsInstance};
@@ -17,11 +17,12 @@ ghost use Rattle.sm_instance.specs.Kept.{IsKept};
 use crate::crosses::{Crosses, LentCrosses, find_crosses};
 use crate::namings::Namings;
 use sm_agents::{
-    Agent, InstanceFault, Kind, NameTables, Pairs, Parts, are_within_limits, capacity_at, checked,
-    checked_seconds, find_named, has_nonzero, list_at, name_tables, set_seconds,
+    Agent, InstanceFault, Kind, NameTables, Pairs, Parts, SpacedSides, are_within_limits,
+    capacity_at, checked, checked_seconds, find_named, has_nonzero, list_at, name_tables,
+    put_name_at, set_seconds,
 };
 use sm_lists::{first_place, is_each_once, place_by};
-use sm_text::TextHash;
+use sm_text::{LineWriter, TextHash};
 use std::alloc::{AllocError, Global};
 use std::marker::Model;
 
@@ -46,6 +47,7 @@ pub struct Instance {
     weighed: Pairs,
     crosses: Option<Crosses>,
     names: Option<NameTables>,
+    spaced: SpacedSides,
 }
 
 impl Model for Instance {
@@ -61,10 +63,11 @@ impl Model for Instance {
     ghost invariant = { λ i. IsKept
         (written_with i.kind i.proposers.items i.reviewers.items i.weights.items i.forced.items
         i.forbidden.items i.seconds.items i.order.items)
-        i.weighed i.crosses i.names };
+        i.weighed i.crosses i.names i.spaced };
 }
 
 impl Instance {
+    ghost use Rattle.sm_text.specs.Writer.{PutsPiece};
     ghost use Rattle.sm_agents.specs.Faults.{IsInstanceFault, IsOrderFault, IsSecondFault, IsSoundSecond};
 
     /// Makes an instance, or names the first thing that stands in the way.
@@ -118,8 +121,8 @@ impl Instance {
 
     /// An instance of parts that are known to make one. Nothing is tried. Pairs, and names where
     /// they are kept, will be found by these hashes, which shouldn't be known to whoever chose them. Neither cross places nor
-    /// names are kept: see [`Instance::keep_crosses`] and [`Instance::keep_names`]. Takes time and memory in proportion to the
-    /// weights.
+    /// tables of names are kept: see [`Instance::keep_crosses`] and [`Instance::keep_names`]. Takes time and memory in proportion to
+    /// the agents and weights.
     ///
     /// # Errors
     ///
@@ -131,7 +134,8 @@ impl Instance {
         ensures { IfOk result (λ i. i ≡ written_in parts) }
     {
         let weighed = Pairs::of(alloc, hash, &parts.weights)?;
-        Ok(of_parts(parts, weighed, None, None))
+        let spaced = SpacedSides::of(alloc, &parts.proposers, &parts.reviewers)?;
+        Ok(of_parts(parts, weighed, None, None, spaced))
     }
 
     /// The kind, which is a marriage or hospitals.
@@ -156,6 +160,24 @@ impl Instance {
         ensures instance { IsInstance self.now }
     {
         &self.reviewers
+    }
+
+    /// Puts a space and a proposer's name behind what a writer holds.
+    #[inline(always)]
+    pub(crate) fn put_proposer(&self, into: &mut LineWriter, p: u32) -> Result<(), AllocError>
+        requires { p < length self.now.proposers }
+        ensures { PutsPiece into.old into.new (32 ∷ (agent_at self.now.proposers p).name) result }
+    {
+        put_name_at(into, &self.proposers, &self.spaced.proposers, p)
+    }
+
+    /// Puts a space and a reviewer's name behind what a writer holds.
+    #[inline(always)]
+    pub(crate) fn put_reviewer(&self, into: &mut LineWriter, r: u32) -> Result<(), AllocError>
+        requires { r < length self.now.reviewers }
+        ensures { PutsPiece into.old into.new (32 ∷ (agent_at self.now.reviewers r).name) result }
+    {
+        put_name_at(into, &self.reviewers, &self.spaced.reviewers, r)
     }
 
     /// The weights in the order in which they were given, each with its proposer and its reviewer.
@@ -537,7 +559,8 @@ fn of_checked(
     ensures { IfOk result (λ i. i ≡ written_in parts) }
 {
     let crosses = find_crosses(alloc, &parts.proposers, &parts.reviewers)?;
-    Ok(of_parts(parts, weighed, Some(crosses), Some(names)))
+    let spaced = SpacedSides::of(alloc, &parts.proposers, &parts.reviewers)?;
+    Ok(of_parts(parts, weighed, Some(crosses), Some(names), spaced))
 }
 
 /// An instance of parts that are known to make one, and of what is kept beside them.
@@ -546,8 +569,9 @@ fn of_parts(
     weighed: Pairs,
     crosses: Option<Crosses>,
     names: Option<NameTables>,
+    spaced: SpacedSides,
 ) -> Instance
-    requires { IsKept (written_in parts) weighed crosses names }
+    requires { IsKept (written_in parts) weighed crosses names spaced }
     ensures { result ≡ written_in parts }
 {
     Instance {
@@ -562,5 +586,6 @@ fn of_parts(
         weighed,
         crosses,
         names,
+        spaced,
     }
 }

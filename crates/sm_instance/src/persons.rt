@@ -1,16 +1,18 @@
 //! Instances of roommates.
 
-ghost use Rattle.std.specs.Prelude.{◌≡◌, ◌<◌, length, position, IfSome, IfOk, IfErr, OnOk};
+ghost use Rattle.std.specs.Prelude.{◌≡◌, ◌<◌, ◌∷◌, length, position, IfSome, IfOk, IfErr, OnOk};
 ghost use Rattle.std.specs.Str.{bytes_eq};
-ghost use Rattle.sm_agents.specs.Written.{names_of};
+ghost use Rattle.sm_text.specs.Writer.{PutsPiece};
+ghost use Rattle.sm_agents.specs.Written.{agent_at, names_of};
 ghost use Rattle.sm_agents.specs.Vectors.{agents_of};
 ghost use Rattle.sm_agents.specs.Sound.{ArePersons};
 
 use sm_agents::{
     Agent, InstanceFault, Kind, Side, are_within_limits, check_entries, checked_names, names_for,
+    put_name_at, spaced_names,
 };
 use sm_names::Names;
-use sm_text::TextHash;
+use sm_text::{LineWriter, SpacedName, TextHash};
 use std::alloc::{AllocError, Global};
 use std::marker::Model;
 
@@ -19,6 +21,7 @@ use std::marker::Model;
 pub struct Persons {
     persons: Vec<Agent>,
     names: Names,
+    spaced: Vec<SpacedName>,
 }
 
 impl Model for Persons {
@@ -31,7 +34,7 @@ impl Model for Persons {
 
     ghost view = { λ p. agents_of p.persons.items };
 
-    ghost invariant = { λ p. ArePersonsKept (agents_of p.persons.items) p.names };
+    ghost invariant = { λ p. ArePersonsKept (agents_of p.persons.items) p.names p.spaced.items };
 }
 
 impl Persons {
@@ -56,7 +59,12 @@ impl Persons {
         }
         let names = checked_names(alloc, Side::Proposers, &persons, true)?;
         check_entries(alloc, Side::Proposers, &persons, persons.len() as u32)?;
-        Ok(Persons { persons, names })
+        let spaced = spaced_names(alloc, &persons)?;
+        Ok(Persons {
+            persons,
+            names,
+            spaced,
+        })
     }
 
     /// An instance of persons who are known to make one. Nothing is tried. Names will be found by these hashes, which
@@ -70,7 +78,12 @@ impl Persons {
         ensures { IfOk result (λ p. p ≡ agents_of persons.items) }
     {
         let names = names_for(alloc, hash, &persons)?;
-        Ok(Persons { persons, names })
+        let spaced = spaced_names(alloc, &persons)?;
+        Ok(Persons {
+            persons,
+            names,
+            spaced,
+        })
     }
 
     /// The kind. The read is for the proof alone: it shows what is kept of the persons.
@@ -88,6 +101,15 @@ impl Persons {
         ensures sound { ArePersons self.now }
     {
         &self.persons
+    }
+
+    /// Puts a space and a person's name behind what a writer holds.
+    #[inline(always)]
+    pub(crate) fn put_person(&self, into: &mut LineWriter, q: u32) -> Result<(), AllocError>
+        requires { q < length self.now }
+        ensures { PutsPiece into.old into.new (32 ∷ (agent_at self.now q).name) result }
+    {
+        put_name_at(into, &self.persons, &self.spaced, q)
     }
 
     /// The number of the person with a name, `None` where there is none.

@@ -65,41 +65,44 @@ pub(crate) fn put_field(
     requires { IsFieldSound input.now field }
     ensures { PutsText into.old into.new (32 ∷ text_of_field input.now field.entry) result }
 {
-    into.put_byte(b' ')?;
-    put_field_text(into, input, field)
-}
-
-/// Puts a field.
-fn put_field_text(into: &mut LineWriter, input: &Input, field: Field<'_>) -> Result<(), AllocError>
-    requires { IsFieldSound input.now field }
-    ensures { PutsText into.old into.new (text_of_field input.now field.entry) result }
-{
     match field {
-        Field::Text(text) => into.put_bytes(text),
-        Field::Left(p) => into.put_bytes(input.left_name(p)),
-        Field::Right(r) => into.put_bytes(input.right_name(r)),
+        Field::Left(p) => input.put_left_name(into, p),
+        Field::Right(r) => input.put_right_name(into, r),
         Field::At(seat) => put_seat(into, input, seat),
-        Field::Number(n) => into.put_number(n),
-        Field::Signed(n) => into.put_signed(n),
-        Field::FlowEnd(end) => put_flow_end(into, end),
-        Field::Vector(vector) => put_vector(into, vector),
+        Field::Text(text) => into.put_behind_space(text),
+        Field::Number(n) => {
+            into.put_byte(b' ')?;
+            into.put_number(n)
+        }
+        Field::Signed(n) => {
+            into.put_byte(b' ')?;
+            into.put_signed(n)
+        }
+        Field::FlowEnd(end) => {
+            into.put_byte(b' ')?;
+            put_flow_end(into, end)
+        }
+        Field::Vector(vector) => {
+            into.put_byte(b' ')?;
+            put_vector(into, vector)
+        }
         Field::After(vector) => {
-            into.put_bytes(b"after=")?;
+            into.put_behind_space(b"after=")?;
             put_vector(into, vector)
         }
         Field::Limit(limit) => {
-            into.put_bytes(b"limit=")?;
+            into.put_behind_space(b"limit=")?;
             into.put_number(u64::from(limit))
         }
     }
 }
 
-/// Puts a seat: its reviewer's name, in hospitals with `/` and its number behind it.
-fn put_seat(into: &mut LineWriter, input: &Input, seat: Seat) -> Result<(), AllocError>
+/// Puts a seat behind a space: its reviewer's name, in hospitals with `/` and its number behind it.
+pub(crate) fn put_seat(into: &mut LineWriter, input: &Input, seat: Seat) -> Result<(), AllocError>
     requires { IsOnRight input.now seat.reviewer }
-    ensures { PutsText into.old into.new (seat_text input.now seat) result }
+    ensures { PutsText into.old into.new (32 ∷ seat_text input.now seat) result }
 {
-    into.put_bytes(input.right_name(seat.reviewer))?;
+    input.put_right_name(into, seat.reviewer)?;
     match input.kind() {
         Kind::Hospitals => put_seat_number(into, seat.number),
         Kind::Marriage | Kind::Roommates => Ok(()),

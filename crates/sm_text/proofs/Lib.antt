@@ -4,3 +4,4 @@ pub mod TokenLemmas
 pub mod NumberLemmas
 pub mod NameLemmas
 pub mod WitnessLemmas
+pub mod WriterLemmas

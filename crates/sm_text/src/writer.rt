@@ -1,7 +1,8 @@
 //! A writer of lines.
 
-ghost use Rattle.std.specs.Prelude.{◌≡◌, ◌≤◌, ◌<◌, ◌++◌, ◌∷◌, [], length, drop, decimal, IfOk};
+ghost use Rattle.std.specs.Prelude.{◌≡◌, ◌≤◌, ◌<◌, ◌+◌, ◌^◌, ◌++◌, ◌∷◌, [], length, take, drop, decimal, vec_len, vec_capacity, IfOk, OnOk, IsOk};
 
+use crate::spaced_name::{SpacedName, WIDTH};
 use std::alloc::{AllocError, Global};
 use std::marker::Model;
 
@@ -10,22 +11,26 @@ use std::marker::Model;
 /// Its room is how many bytes it can hold without asking for more memory.
 #[derive(Drop)]
 pub struct LineWriter {
+    /// What it holds, and behind it bytes that mean nothing and are written over.
     bytes: Vec<u8>,
+    /// How many bytes it holds.
+    len: usize,
+    ghost within: { len ≤ length bytes.items },
 }
 
 impl Model for LineWriter {
-    ghost use Rattle.std.specs.Prelude.{vec_capacity};
+    ghost use Rattle.std.specs.Prelude.{take, vec_capacity};
     ghost use Rattle.sm_text.specs.Writer.{WriterData};
 
     ghost Value = { WriterData };
 
-    ghost view = { λ w. record { bytes = w.bytes.items; room = vec_capacity w.bytes } };
+    ghost view = { λ w. record { bytes = take w.len w.bytes.items; room = vec_capacity w.bytes } };
 }
 
 impl LineWriter {
-    ghost use Rattle.std.specs.Prelude.{vec_capacity};
+    ghost use Rattle.std.specs.Prelude.{take, vec_len, vec_capacity};
     ghost use Rattle.std.specs.Fmt.{signed_decimal};
-    ghost use Rattle.sm_text.specs.Writer.{PutsPiece};
+    ghost use Rattle.sm_text.specs.Writer.{PutsPiece, IsSpacedName};
 
     /// An empty writer with room for `room` bytes. Takes constant time, and memory for that room.
     ///
@@ -38,6 +43,7 @@ impl LineWriter {
     {
         Ok(LineWriter {
             bytes: Vec::with_capacity(alloc, room)?,
+            len: 0,
         })
     }
 
@@ -45,7 +51,7 @@ impl LineWriter {
     pub fn bytes(&self) -> &[u8]
         ensures { result.now ≡ self.now.bytes }
     {
-        self.bytes.as_slice()
+        &self.bytes[..self.len]
     }
 
     /// What it holds, as a vector with the writer's room. Nothing is copied: it takes constant time, and no memory.
@@ -53,7 +59,9 @@ impl LineWriter {
         ensures bytes { result.items ≡ self.bytes }
         ensures room { vec_capacity result ≡ self.room }
     {
-        self.bytes
+        let LineWriter { mut bytes, len } = self;
+        bytes.truncate(len);
+        bytes
     }
 
     /// Empties it. It keeps its room. Takes constant time.
@@ -61,7 +69,7 @@ impl LineWriter {
         ensures empty { self.new.bytes ≡ [] }
         ensures room { self.new.room ≡ self.old.room }
     {
-        self.bytes.clear();
+        self.len = 0;
     }
 
     /// Puts bytes behind what it holds. Takes time in proportion to them; where the room has to grow, memory and time in
@@ -74,7 +82,10 @@ impl LineWriter {
     pub fn put_bytes(&mut self, piece: &[u8]) -> Result<(), AllocError>
         ensures { PutsPiece self.old self.new piece.now result }
     {
-        self.bytes.extend_from_slice(piece)
+        let to = make_ready(&mut self.bytes, self.len, piece.len())?;
+        self.bytes[self.len..to].copy_from_slice(piece);
+        self.len = to;
+        Ok(())
     }
 
     /// Puts one byte behind what it holds. Takes constant time; where the room has to grow, what [`LineWriter::put_bytes`]
@@ -86,8 +97,45 @@ impl LineWriter {
     pub fn put_byte(&mut self, byte: u8) -> Result<(), AllocError>
         ensures { PutsPiece self.old self.new (byte ∷ []) result }
     {
-        self.bytes.push(byte)?;
+        let to = make_ready(&mut self.bytes, self.len, 1)?;
+        self.bytes[self.len] = byte;
+        self.len = to;
         Ok(())
+    }
+
+    /// Puts a space and a name behind it. Takes constant time for a name of at most fifteen bytes, and what
+    /// [`LineWriter::put_bytes`] takes for any other, and where the room has to grow.
+    ///
+    /// # Errors
+    ///
+    /// As [`LineWriter::put_bytes`] for the space and the name.
+    #[inline(always)]
+    pub fn put_name(&mut self, spaced: &SpacedName, name: &[u8]) -> Result<(), AllocError>
+        requires { IsSpacedName spaced.now.bytes spaced.now.len name.now }
+        ensures { PutsPiece self.old self.new (32 ∷ name.now) result }
+    {
+        let from = self.len;
+        let len = spaced.len as usize;
+        if len > 0 && self.bytes.len() - from >= WIDTH {
+            write_over(&mut self.bytes, from, &spaced.bytes);
+            self.len = from + len;
+            return Ok(());
+        }
+        self.put_behind_space(name)
+    }
+
+    /// Puts a space and bytes behind it. Takes what [`LineWriter::put_bytes`] takes.
+    ///
+    /// # Errors
+    ///
+    /// As [`LineWriter::put_bytes`] for the space and the bytes.
+    #[inline(never)]
+    pub fn put_behind_space(&mut self, piece: &[u8]) -> Result<(), AllocError>
+        ensures { PutsPiece self.old self.new (32 ∷ piece.now) result }
+    {
+        make_ready(&mut self.bytes, self.len, piece.len() + 1)?;
+        self.put_byte(b' ').unwrap();
+        self.put_bytes(piece)
     }
 
     /// Puts a number in decimal behind what it holds. Takes what [`LineWriter::put_bytes`] takes.
@@ -123,6 +171,53 @@ impl LineWriter {
         text[start] = b'-';
         self.put_bytes(&text[start..])
     }
+}
+
+/// Writes these bytes over those from a place on.
+#[inline(always)]
+fn write_over(bytes: &mut Vec<u8>, from: usize, new: &[u8; WIDTH])
+    requires inside { from + 16 ≤ vec_len bytes.old }
+    ensures written { take (from + 16) bytes.new.items ≡ take from bytes.old.items ++ new.now }
+    ensures len { vec_len bytes.new ≡ vec_len bytes.old }
+    ensures room { vec_capacity bytes.new ≡ vec_capacity bytes.old }
+{
+    bytes[from..from + WIDTH].copy_from_slice(new);
+}
+
+/// Sees to it that behind the first `len` bytes there are so many more to write over, and answers where these end.
+#[inline(always)]
+fn make_ready(bytes: &mut Vec<u8>, len: usize, more: usize) -> Result<usize, AllocError>
+    requires within { len ≤ vec_len bytes.old }
+    requires few { more ≤ 2 ^ 63 }
+    ensures end { IfOk result (λ to. to ≡ len + more) }
+    ensures there { IfOk result (λ to. to ≤ vec_len bytes.new) }
+    ensures within { len ≤ vec_len bytes.new }
+    ensures held { take len bytes.new.items ≡ take len bytes.old.items }
+    ensures fits { len + more ≤ vec_capacity bytes.old → IsOk result }
+    ensures room { vec_capacity bytes.old ≤ vec_capacity bytes.new }
+{
+    let to = len + more;
+    if bytes.len() < to {
+        fill_up(bytes, to)?;
+    }
+    Ok(to)
+}
+
+/// Adds bytes to write over, up to a place at least: as many as there are, so that the time is in proportion to what is put, but no
+/// more than there is room for.
+#[inline(never)]
+fn fill_up(bytes: &mut Vec<u8>, to: usize) -> Result<(), AllocError>
+    requires further { vec_len bytes.old < to }
+    ensures there { OnOk result (to ≤ vec_len bytes.new) }
+    ensures held { take (vec_len bytes.old) bytes.new.items ≡ bytes.old.items }
+    ensures fits { to ≤ vec_capacity bytes.old → IsOk result }
+    ensures room { vec_capacity bytes.old ≤ vec_capacity bytes.new }
+{
+    bytes.reserve(to - bytes.len())?;
+    let twice = bytes.len().saturating_mul(2);
+    let len = twice.min(bytes.capacity()).max(to);
+    bytes.resize(len, 0).unwrap();
+    Ok(())
 }
 
 /// How many digits the greatest `u64` has.

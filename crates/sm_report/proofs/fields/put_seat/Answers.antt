@@ -1,4 +1,4 @@
-use Rattle.std.proofs.Common.{◌++◌, codes, decimal, refl, sym, ap, ◌∙◌, append_assoc}
+use Rattle.std.proofs.Common.{◌∷◌, codes, decimal, refl, sym, ap, ◌∙◌, append_assoc}
 use Rattle.sm_report.specs.Texts.{right_name, seat_text_in}
 use Rattle.sm_report.proofs.PutLemmas.{puts_then, puts_same}
 use Rattle.sm_report.proofs.fields.put_seat.Goals as goal
@@ -7,8 +7,8 @@ pub returns-in-Hospitals : goal.returns-in-Hospitals
 returns-in-Hospitals c =
     let input = c.args.input.now in
     let seat = c.args.seat in
-    let first = c.in_ok-put_bytes.ensures in
-    puts_same (sym (append_assoc c.right_name.result.now (codes "/") (decimal seat.number))
-    ∙ ap (λ name. name ++ codes "/" ++ decimal seat.number) c.right_name.ensures
-    ∙ ap (λ kind. seat_text_in kind (right_name input seat.reviewer) seat.number) c.in-Hospitals.ensures.kind)
+    let name = right_name input seat.reviewer in
+    let first = c.in_ok-put_right_name.ensures in
+    puts_same (ap (λ t. 32 ∷ t) (sym (append_assoc name (codes "/") (decimal seat.number)))
+    ∙ ap (λ kind. 32 ∷ seat_text_in kind name seat.number) c.in-Hospitals.ensures.kind)
     (puts_then _ (record { ok = first.ok; err = tt; fits = λ _. refl; room = first.room }) c.put_seat_number.ensures)

@@ -62,7 +62,7 @@ whole c = take-append_at_length c.self.inside.seconds.len (anew c) _ (omega (ari
 pub invariant_of-self : goal.invariant_of-self
 invariant_of-self c =
     let i = c.self.inside in
-    let P : List ℤ → Type 0 = λ s. IsKept (written_with i.kind i.proposers.items i.reviewers.items i.weights.items i.forced.items i.forbidden.items s i.order.items) i.weighed i.crosses i.names in
+    let P : List ℤ → Type 0 = λ s. IsKept (written_with i.kind i.proposers.items i.reviewers.items i.weights.items i.forced.items i.forbidden.items s i.order.items) i.weighed i.crosses i.names i.spaced in
     let small = subst (All (λ s. unsigned_abs s ≤ most_weight)) (sym (set_is c)) (given_small (given c)) in
     subst P (sym (whole c)) (kept_with_seconds c.self.invariant (anew c) (long c) small)
 
