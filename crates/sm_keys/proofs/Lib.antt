@@ -1,12 +1,14 @@
 pub mod TextLemmas
 pub mod WordLemmas
 pub mod PositionLemmas
+pub mod TextKeyLemmas
 pub mod BadLemmas
 pub mod WholeLemmas
 pub mod RunLemmas
 pub mod NameLemmas
 pub mod TableLemmas
 pub mod ListingLemmas
+pub mod RepeatLemmas
 pub mod OrderLemmas
 pub mod AllLemmas
 pub mod EnoughLemmas

@@ -1,5 +1,5 @@
 -- Texts among texts.
-use Rattle.std.proofs.Common.{◌≡◌, ℕ, suc, ◌+◌, ◌<◌, ◌≤◌, ◌||◌, ◌&&◌, Bool, true, false, not, cond, List, [], ◌∷◌, ◌++◌, length, get_or, take, Some, None, refl, sym, ap, ◌∙◌, arith, position, is_some}
+use Rattle.std.proofs.Common.{◌≡◌, ℕ, suc, ◌+◌, ◌<◌, ◌≤◌, ◌||◌, ◌&&◌, Bool, true, false, not, cond, List, [], ◌∷◌, ◌++◌, length, get_or, map, take, Some, None, refl, sym, ap, ◌∙◌, arith, position, is_some}
 use Rattle.std.specs.Borrow.{Bor}
 use Rattle.std.specs.List.{list_any, list_all, position_or_len}
 use Rattle.std.specs.Str.{bytes_eq}
@@ -12,22 +12,36 @@ use Rattle.sm_text.specs.Slices.{texts_of}
 use Rattle.sm_keys.specs.declared.key.Key.{Key}
 use Rattle.sm_keys.proofs.TextLemmas.{equal_text}
 
+-- what passes among things, as they are seen
+module _ {X Y : Type 0} (p : Y → Bool) (view : X → Y) where
+  -- whether one passes
+  pub list_any-map : (xs : List X) → list_any p (map view xs) ≡ list_any (λ x. p (view x)) xs
+  list_any-map [] = refl
+  list_any-map (x ∷ xs) = ap (λ t. p (view x) || t) (list_any-map xs)
+
+  -- the first that does, or how many there are
+  pub position_or_len-map : (xs : List X) → position_or_len p (map view xs) ≡ position_or_len (λ x. p (view x)) xs
+  position_or_len-map [] = refl
+  position_or_len-map (x ∷ xs) = ap (λ n. cond (not (p (view x))) (1 + n) 0) (position_or_len-map xs)
+
+  -- the first that does, if there is one
+  pub position-map : (xs : List X) → position p (map view xs) ≡ position (λ x. p (view x)) xs
+  position-map xs =
+      let places = position_or_len-map xs in
+      let long : length (map view xs) ≡ length xs = length-map xs view in
+      cc
+
 -- among keys, as among the names that they are
 pub list_any_texts : (name : List ℕ) (keys : List Key) → list_any (λ k. bytes_eq name (text_of k)) keys ≡ list_any (bytes_eq name) (key_texts keys)
-list_any_texts name [] = refl
-list_any_texts name (k ∷ ks) = ap (λ t. bytes_eq name (text_of k) || t) (list_any_texts name ks)
+list_any_texts name keys = sym (list_any-map (bytes_eq name) text_of keys)
 
 -- the place of a name among keys is that among their texts
 pub position_texts : (name : List ℕ) (keys : List Key) → position_or_len (λ k. bytes_eq name (text_of k)) keys ≡ position_or_len (bytes_eq name) (key_texts keys)
-position_texts name [] = refl
-position_texts name (k ∷ ks) = ap (λ n. cond (not (bytes_eq name (text_of k))) (1 + n) 0) (position_texts name ks)
+position_texts name keys = sym (position_or_len-map (bytes_eq name) text_of keys)
 
 -- and so where it may be missing
 pub position_keys : (name : List ℕ) (keys : List Key) → position (λ k. bytes_eq name (text_of k)) keys ≡ position (bytes_eq name) (key_texts keys)
-position_keys name keys =
-    let places = position_texts name keys in
-    let long : length keys ≡ length (key_texts keys) = sym (length-map keys text_of) in
-    cc
+position_keys name keys = sym (position-map (bytes_eq name) text_of keys)
 
 -- the first that passes, where one does or none does
 pub position_or_len-none : {X : Type 0} (p : X → Bool) (xs : List X) → list_any p xs ≡ false → position_or_len p xs ≡ length xs
@@ -56,6 +70,14 @@ position-none p xs h = let past = position_or_len-none p xs h in grind (arith, n
 -- where one does there is
 pub position-some : {X : Type 0} (p : X → Bool) (xs : List X) → list_any p xs ≡ true → position p xs ≡ Some (position_or_len p xs)
 position-some p xs h = let found = position_or_len-lt p xs h in grind (arith, nat_tests)
+
+-- where there is no position, the place is behind the last
+pub none_past : {X : Type 0} (p : X → Bool) (xs : List X) → position p xs ≡ None → position_or_len p xs ≡ length xs
+none_past p xs h = by_test (list_any p xs) refl
+  where
+    by_test : (t : Bool) → list_any p xs ≡ t → position_or_len p xs ≡ length xs
+    by_test true e = absurd (let k = sym h ∙ position-some p xs e in cc)
+    by_test false e = position_or_len-none p xs e
 
 -- whether there is a position
 pub is_some-position : {X : Type 0} (p : X → Bool) (xs : List X) → is_some (position p xs) ≡ list_any p xs

@@ -9,7 +9,7 @@ use Rattle.std.proofs.lemmas.List.Folds.{list_any-append, list_any_at, list_any_
 use Rattle.std.proofs.lemmas.List.Quantifiers.{all_pairs_push, position-Some}
 use Rattle.std.proofs.lemmas.Bool.{false≢true, cases_lt}
 use Rattle.std.proofs.lemmas.Bool.Decides.{nat_tests}
-use Rattle.sm_keys.specs.Tables.{number_in, Table, IsTable, text_at, Interns, Declares, IsStamped}
+use Rattle.sm_keys.specs.Tables.{number_in, Table, IsTable, text_at, IsAt, Interns, Declares, IsStamped}
 use Rattle.sm_keys.proofs.PositionLemmas.{position-none, is_some-position, position-push_other, position-push_new, position_or_len-lt, position_or_len-none, at_position}
 use Rattle.sm_keys.proofs.TextLemmas.{same_text, equal_text, other_text}
 
@@ -23,11 +23,16 @@ undeclared t name table absent = list_any_none (bytes_eq name) t.declared (λ (k
         absurd (false≢true (sym absent ∙ ap (λ x. list_any (bytes_eq x) t.texts) (sym same) ∙ table.known k inside))
     by_test k d inside false e = e
 
--- the number of a name is that of its index
+-- what is read at the index of a name is its number
+pub number_read : (t : Table) (name : List ℕ) (i : ℕ) (x : Option ℕ) → IsTable t → IsAt t.texts name i → x ≡ get_or t.numbers i x → x ≡ position (bytes_eq name) t.declared
+number_read t name i x table at here =
+    here ∙ get_or_default t.numbers i x None (omega (arith, at.in_range, table.number_each)) ∙ table.numbered i at.in_range ∙ ap (λ x. position (bytes_eq x) t.declared) at.names
+
+-- so it is where the name is found by its hash
 pub found_by_index : (t : Table) (name : List ℕ) (i : ℕ) (x : Option ℕ) → IsTable t → position (bytes_eq name) t.texts ≡ Some i → x ≡ get_or t.numbers i x → x ≡ position (bytes_eq name) t.declared
 found_by_index t name i x table found here =
     let at = position-Some (bytes_eq name) t.texts i [] found in
-    here ∙ get_or_default t.numbers i x None (omega (arith, at.0, table.number_each)) ∙ table.numbered i at.0 ∙ ap (λ x. position (bytes_eq x) t.declared) (sym (equal_text name (text_at t.texts i) at.1))
+    number_read t name i x table (record { in_range = at.0; names = sym (equal_text name (text_at t.texts i) at.1) }) here
 
 -- one without an index has none
 pub missing_by_index : (t : Table) (name : List ℕ) → IsTable t → position (bytes_eq name) t.texts ≡ None → None ≡ position (bytes_eq name) t.declared

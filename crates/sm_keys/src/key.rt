@@ -3,7 +3,7 @@
 ghost use Rattle.std.specs.Prelude.{◌≡◌, ◌-◌, ◌*◌, ◌%◌, ◌^◌, ◌≤◌, true, length, take, drop};
 ghost use Rattle.std.specs.Str.{bytes_eq};
 ghost use Rattle.sm_text.specs.Name.{is_name as is_a_name};
-ghost use Rattle.sm_keys.specs.Words.{IsWordOf, IsNameLen, HasWord, word_of};
+ghost use Rattle.sm_keys.specs.Words.{IsWordOf, IsNameLen, HasWord};
 
 use sm_text::is_name;
 use std::hash::{FoldHasher, Hash, Hasher};
@@ -28,8 +28,17 @@ impl<'a> Key<'a> {
     pub fn of(text: &'a [u8]) -> Key<'a>
         ensures { result.text.now ≡ text.now }
     {
-        let word = match text.len() {
-            1..=8 => short_word(text),
+        // One to eight bytes stand at the top of their word, and zeros below them.
+        let word = match *text {
+            [] => 0,
+            [a] => u64::from_le_bytes([0, 0, 0, 0, 0, 0, 0, a]),
+            [a, b] => u64::from_le_bytes([0, 0, 0, 0, 0, 0, a, b]),
+            [a, b, c] => u64::from_le_bytes([0, 0, 0, 0, 0, a, b, c]),
+            [a, b, c, d] => u64::from_le_bytes([0, 0, 0, 0, a, b, c, d]),
+            [a, b, c, d, e] => u64::from_le_bytes([0, 0, 0, a, b, c, d, e]),
+            [a, b, c, d, e, f] => u64::from_le_bytes([0, 0, a, b, c, d, e, f]),
+            [a, b, c, d, e, f, g] => u64::from_le_bytes([0, a, b, c, d, e, f, g]),
+            [a, b, c, d, e, f, g, h] => u64::from_le_bytes([a, b, c, d, e, f, g, h]),
             _ => hash(text),
         };
         Key {
@@ -130,26 +139,6 @@ impl<'a> Hash for Key<'a> {
     fn hash<H: Hasher>(&self, state: &mut H) {
         state.write(self.text);
     }
-}
-
-/// The word of one to eight bytes.
-#[inline(always)]
-fn short_word(text: &[u8]) -> u64
-    requires enough { 1 ≤ length text.now }
-    requires few { length text.now ≤ 8 }
-    ensures { result ≡ word_of text.now }
-{
-    u64::from_le_bytes(match *text {
-        [a] => [0, 0, 0, 0, 0, 0, 0, a],
-        [a, b] => [0, 0, 0, 0, 0, 0, a, b],
-        [a, b, c] => [0, 0, 0, 0, 0, a, b, c],
-        [a, b, c, d] => [0, 0, 0, 0, a, b, c, d],
-        [a, b, c, d, e] => [0, 0, 0, a, b, c, d, e],
-        [a, b, c, d, e, f] => [0, 0, a, b, c, d, e, f],
-        [a, b, c, d, e, f, g] => [0, a, b, c, d, e, f, g],
-        [a, b, c, d, e, f, g, h] => [a, b, c, d, e, f, g, h],
-        _ => unreachable!(),
-    })
 }
 
 /// A number whose lowest bytes, so many, stand at its top instead.

@@ -22,7 +22,7 @@ use std::mem::swap;
 
 /// So many names of a side are looked for by the hashes of a short text. Were all their hashes chosen to be equal, they would be
 /// compared some 33 million times, which takes less than a tenth of a second. Most texts need no digest so.
-const FEW: u32 = 8_192;
+pub(crate) const FEW: u32 = 8_192;
 
 /// The names of one side that stand in a text so far, declared or not, each by the index that it got where it stood
 /// first. A name is looked for at the index that it is guessed to have, and else found by its hash.
@@ -196,13 +196,44 @@ impl<'a> Names<'a> {
         Ok(Some(index))
     }
 
-    /// The number under which a name is declared, `None` where it isn't. Takes time in the length of the name.
+    /// The number under which a name is declared, `None` where it isn't. The name is looked for at the index that it is guessed to
+    /// have first. Takes time in the length of the name.
     pub fn find(&self, name: &[u8]) -> Option<u32>
+        ensures { result ≡ position (bytes_eq name.now) self.now.declared }
+    {
+        match self.recall(name) {
+            Some(index) => self.numbers[index as usize],
+            None => self.look_up(name),
+        }
+    }
+
+    /// The number under which a name is declared, by its hash. Never inlined, so that a name whose index is guessed pays nothing for
+    /// it.
+    #[inline(never)]
+    fn look_up(&self, name: &[u8]) -> Option<u32>
         ensures { result ≡ position (bytes_eq name.now) self.now.declared }
     {
         match self.texts.get_index_of(&Key::of(name)) {
             Some(index) => self.numbers[index],
             None => None,
+        }
+    }
+
+    /// Is a name declared? Takes the time of [`Names::find`].
+    pub fn knows(&self, name: &[u8]) -> bool
+        ensures { result ≡ list_any (bytes_eq name.now) self.now.declared }
+    {
+        self.find(name).is_some()
+    }
+
+    /// The number under which a name is declared, and how many are declared where it isn't. Takes the time of [`Names::find`].
+    pub fn number_of(&self, name: &[u8]) -> u32
+        requires { length self.now.declared < 2 ^ 32 }
+        ensures { result ≡ number_in self.now.declared name.now }
+    {
+        match self.find(name) {
+            Some(number) => number,
+            None => self.declared.len() as u32,
         }
     }
 

@@ -1,7 +1,7 @@
-//! Names as keys, and guesses at their indexes.
+//! Names as keys, guesses at their indexes, and names that stand twice.
 
 use crate::made::MEMORY;
-use sm_keys::{Key, Recent};
+use sm_keys::{Key, Recent, has_repeated};
 use std::process::Abort;
 
 /// Makes sure that a name has the key of the one with which a text begins.
@@ -43,4 +43,37 @@ fn two_indexes_are_guessed(rt: HostRuntime) {
     note(&rt, &mut recent, key, 9, 9);
     assert!(rt; recent.second_guess(key.word, key.text.len()) == 7);
     note(&rt, &mut recent, key, 65_536, 9);
+}
+
+/// Makes sure whether one of these names stands twice.
+fn repeats(rt: &(impl Abort + AllocGlobal), text: &[u8], names: &[&[u8]], wanted: bool) {
+    let found = has_repeated(rt.alloc(), text, names).expect(rt, MEMORY);
+    assert!(rt; found == wanted);
+}
+
+#[test]
+fn names_that_stand_twice_are_found(rt: HostRuntime) {
+    repeats(&rt, b"", &[], false);
+    repeats(&rt, b"w m", &[b"w", b"m"], false);
+    repeats(&rt, b"w m w", &[b"w", b"m", b"w"], true);
+}
+
+/// The numbers below a limit, in four bytes each.
+fn numbers(rt: &(impl Abort + AllocGlobal), limit: u32) -> Vec<u8> {
+    let mut text = Vec::new(rt.alloc());
+    for number in 0..limit {
+        text.extend_from_slice(&number.to_le_bytes())
+            .expect(rt, MEMORY);
+    }
+    text
+}
+
+/// More names than one class holds.
+#[test]
+fn names_of_two_classes_that_stand_twice_are_found(rt: HostRuntime) {
+    let text = numbers(&rt, 70_000);
+    let mut names: Vec<&[u8]> = text.chunks_exact(4).collect(rt.alloc()).expect(&rt, MEMORY);
+    repeats(&rt, &text, &names, false);
+    names.push(&[0, 0, 0, 0]).expect(&rt, MEMORY);
+    repeats(&rt, &text, &names, true);
 }

@@ -4,7 +4,7 @@ use Rattle.indexmap.specs.IndexSet.{keys}
 use Rattle.sm_keys.specs.Tables.{Table, table_from}
 use Rattle.sm_keys.proofs.PositionLemmas.{position_keys}
 use Rattle.sm_keys.proofs.TableLemmas.{found_by_index, missing_by_index}
-use Rattle.sm_keys.proofs.names.Names.find.Goals as goal
+use Rattle.sm_keys.proofs.names.Names.look_up.Goals as goal
 
 pub returns-in-Some : goal.returns-in-Some
 returns-in-Some c =
