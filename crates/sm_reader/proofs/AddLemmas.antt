@@ -15,11 +15,11 @@ use Rattle.sm_agents.specs.declared.kinds.Side.TheVariants.{Proposers, Reviewers
 use Rattle.sm_agents.specs.Named.{SaidAgent, entries_of, entries_of_masters}
 use Rattle.sm_keys.specs.Tables.{has_repeated, Table, text_at, Extends, AreBelow}
 use Rattle.sm_reader.specs.Judging.{with_agent}
-use Rattle.sm_reader.specs.Draft.{listed_table, listed_side, agent_in, master_in, said_of, AreAgentsBelow, pairs_of, IsDraft, limit_fault, name_fault, DeclaresOn, ListsOn, PutsOn, AddsAgent}
+use Rattle.sm_reader.specs.Draft.{listed_table, listed_side, agent_in, master_in, said_of, AreAgentsBelow, IsDraft, limit_fault, name_fault, DeclaresOn, ListsOn, PutsOn, AddsAgent}
 use Rattle.sm_reader.specs.declared.draft.Declared.{Declared}
 use Rattle.sm_reader.specs.declared.draft.Draft.{Draft}
 use Rattle.sm_keys.proofs.ListingLemmas.{extends_long, extends_twice}
-use Rattle.sm_reader.proofs.DraftLemmas.{agents_kept, agents_below_more, agents_below_push, pairs_kept, weights_kept, pairs_below_more, order_kept, order_below_more, said_same, listed_more}
+use Rattle.sm_reader.proofs.DraftLemmas.{agents_kept, agents_below_more, agents_below_push, said_same, listed_more}
 
 -- a faultless agent is within the limits
 pub within_limits : (agents entries more : ℕ) → limit_fault agents entries more ≡ None → (agents < most_agents) × (entries + more ≤ most_entries)
@@ -65,7 +65,7 @@ module _ (kind : Kind) (line : ℕ) (d : Draft) (pn rn : Table) (draft : IsDraft
 
   -- the count of the entries of master lists
   abbrev pub shared : ℕ
-  shared = entries_of_masters (map master_in d.masters.items)
+  shared = entries_of_masters (map master_in d.masters.entries)
 
   -- a draft with other agents
   abbrev pub with_agents : Vec Declared Global → Vec Declared Global → ℕ → Draft
@@ -74,15 +74,7 @@ module _ (kind : Kind) (line : ℕ) (d : Draft) (pn rn : Table) (draft : IsDraft
   -- what it says
   pub said_with_agents : (ps rs : Vec Declared Global) (n : ℕ) {p r : List SaidAgent} → map (agent_in (listed_table kind pn rn).texts) ps.items ≡ p → map (agent_in pn.texts) rs.items ≡ r
       → said_of kind (with_agents ps rs n) ≡ record (said_of kind d) { proposers = p; reviewers = r }
-  said_with_agents ps rs n e f =
-      let p = d.proposer_names.texts in
-      let r = d.reviewer_names.texts in
-      said_same e f
-      (weights_kept p pn.texts r rn.texts grown.p_more grown.r_more d.weights.items draft.weights_in)
-      (pairs_kept p pn.texts r rn.texts grown.p_more grown.r_more d.forced.items draft.forced_in)
-      (pairs_kept p pn.texts r rn.texts grown.p_more grown.r_more d.forbidden.items draft.forbidden_in)
-      refl
-      (order_kept p pn.texts d.order grown.p_more draft.order_in)
+  said_with_agents ps rs n e f = said_same e f refl refl refl refl refl
 
   -- and what it meets
   pub draft_with_agents : (ps rs : Vec Declared Global) (n : ℕ) → pn.declared ≡ map (λ (x : Declared). x.name.now) ps.items → rn.declared ≡ map (λ (x : Declared). x.name.now) rs.items
@@ -90,17 +82,11 @@ module _ (kind : Kind) (line : ℕ) (d : Draft) (pn rn : Table) (draft : IsDraft
       → n ≡ entries_of (map (agent_in (listed_table kind pn rn).texts) ps.items) + entries_of (map (agent_in pn.texts) rs.items) + shared
       → n ≤ most_entries → length ps.items ≤ most_agents → length rs.items ≤ most_agents → IsDraft kind (line + 1) (with_agents ps rs n)
   draft_with_agents ps rs n named_ps named_rs below_ps below_rs counted few few_ps few_rs =
-      let p = d.proposer_names.texts in
-      let r = d.reviewer_names.texts in
       record {
         proposers_declared = named_ps;
         reviewers_declared = named_rs;
         proposers_in = below_ps;
         reviewers_in = below_rs;
-        weights_in = pairs_below_more p pn.texts r rn.texts grown.p_more grown.r_more (pairs_of d.weights.items) draft.weights_in;
-        forced_in = pairs_below_more p pn.texts r rn.texts grown.p_more grown.r_more d.forced.items draft.forced_in;
-        forbidden_in = pairs_below_more p pn.texts r rn.texts grown.p_more grown.r_more d.forbidden.items draft.forbidden_in;
-        weighed = draft.weighed;
         counted = counted;
         entries_fit = few;
         proposers_fit = few_ps;
@@ -109,7 +95,6 @@ module _ (kind : Kind) (line : ℕ) (d : Draft) (pn rn : Table) (draft : IsDraft
         reviewers_fresh = grown.r_fresh;
         few = omega (arith, draft.few);
         masters = draft.masters;
-        order_in = order_below_more (length p) (length pn.texts) d.order (extends_long p pn.texts grown.p_more) draft.order_in;
       }
 
   -- an agent is added, behind those of its side

@@ -1,8 +1,9 @@
 -- Verdicts on lines.
-use Rattle.std.proofs.Common.{◌≡◌, ℕ, ◌<◌, ◌≤◌, Bool, true, false, not, cond, List, [], ◌∷◌, length, get_or, drop, Option, Some, None, is_some, refl, ap, ◌∙◌, arith}
+use Rattle.std.proofs.Common.{◌≡◌, ℕ, ◌<◌, ◌≤◌, Bool, true, false, not, cond, List, [], ◌∷◌, length, get_or, drop, Option, Some, None, is_some, refl, sym, ap, ◌∙◌, arith}
 use Rattle.std.specs.Borrow.{Bor}
 use Rattle.std.specs.List.{list_any, list_all}
 use Rattle.std.specs.Option.{option_or, option_map_or}
+use Rattle.std.proofs.lemmas.Bool.{false≢true}
 use Rattle.sm_text.specs.Name.{is_name}
 use Rattle.sm_text.specs.declared.refusal.RefusalKind.{RefusalKind}
 use Rattle.sm_text.specs.declared.refusal.RefusalKind.TheVariants.{BadByte, BadHeader, BadName, BadNumber}
@@ -14,7 +15,12 @@ use Rattle.sm_reader.specs.Forms.{Form, declares, weighs, binds, uses, shares, o
 use Rattle.sm_keys.specs.Tokens.{is_bad}
 use Rattle.sm_reader.specs.Judging.{Verdict, goes, stops, refuses, passes, heads, faces, heading_of, verdict_on, of_form, fault_of, agent_fault, said_with, is_bad_capacity}
 use Rattle.sm_text.specs.Slices.{texts_of}
-use Rattle.sm_reader.specs.Draft.{run_fault, name_fault, master_fault, order_fault, weight_fault, IsLineFault, IsRefusedBy}
+use Rattle.sm_reader.specs.Draft.{said_of, form_of, run_fault, name_fault, master_fault, order_fault, weight_fault, said_ordered, IsLineFault, IsOrderOf, IsOrdering, AddsBy, IsJudged, IsRefusedBy}
+use Rattle.sm_reader.specs.declared.draft.Draft.{Draft}
+use Rattle.sm_reader.specs.declared.forms.Form.{Form as Line}
+use Rattle.sm_reader.specs.declared.forms.Form.TheVariants.{Agent as AgentLine, Use as UseLine, Master as MasterLine, Order as OrderLine, Weight as WeightLine, Pair as PairLine}
+use Rattle.sm_reader.specs.declared.judging.Judged.{Judged}
+use Rattle.sm_reader.specs.declared.judging.Judged.TheVariants.{Added, Orders, Ends}
 use Rattle.sm_reader.specs.declared.faults.TextFault.{TextFault}
 use Rattle.sm_reader.specs.declared.faults.TextFault.TheVariants.{Refused, OutOfMemory}
 
@@ -51,6 +57,32 @@ by_fault said line form kind e = rw e refl
 -- a form without a fault adds what it says
 pub by_none : (said : Said) (line : ℕ) (form : Form) → fault_of said form ≡ None → of_form said line (Some form) ≡ goes (said_with said line form)
 by_none said line form e = rw e refl
+
+-- a line that orders proposers has the form of an order
+ordering_is : (form : Line) (names : List (List ℕ)) → IsOrdering form → IsOrderOf names form → form_of form ≡ orders names
+ordering_is (OrderLine proposers) names is order = ap orders order
+ordering_is (AgentLine side name capacity entries) names is order = absurd (false≢true is)
+ordering_is (UseLine side name capacity master) names is order = absurd (false≢true is)
+ordering_is (MasterLine name entries) names is order = absurd (false≢true is)
+ordering_is (WeightLine proposer reviewer weight second) names is order = absurd (false≢true is)
+ordering_is (PairLine condition proposer reviewer) names is order = absurd (false≢true is)
+
+-- an order goes on with its names
+goes_ordered : (said : Said) (line : ℕ) (form : Form) (names : List (List ℕ)) → form ≡ orders names → said_with said line form ≡ said_ordered said line names
+unfolding said_with
+goes_ordered said line form names is = ap (said_with said line) is
+
+-- a line whose form has added what it says, or orders proposers, is judged
+pub judged_by : (kind : Kind) (format line : ℕ) (tokens : List (List ℕ)) (old new : Draft) (form : Line) → verdict_on kind format (said_of kind old) line tokens ≡ of_form (said_of kind old) line (Some (form_of form))
+    → IsOrderOf (drop 1 tokens) form → (judged : Judged) → AddsBy kind line form old new judged → IsJudged kind format line tokens old new judged
+judged_by kind format line tokens old new form same order Added adds =
+    (same ∙ by_none (said_of kind old) line (form_of form) adds.faultless ∙ ap (λ s. goes s) (sym adds.said), adds.draft)
+judged_by kind format line tokens old new form same order Orders adds = (
+  same ∙ by_none (said_of kind old) line (form_of form) adds.0
+      ∙ ap (λ s. goes s) (goes_ordered (said_of kind old) line (form_of form) (drop 1 tokens) (ordering_is form (drop 1 tokens) adds.1 order)),
+  adds.2,
+)
+judged_by kind format line tokens old new form same order Ends adds = absurd (false≢true adds)
 
 -- the faults of an agent's line are those of its runs, and then those of names and limits
 two_rows : (a b : Bool) (k l : RefusalKind) (rest : Option RefusalKind) → cond a (Some k) (cond b (Some l) rest) ≡ option_or (cond a (Some k) (cond b (Some l) None)) rest

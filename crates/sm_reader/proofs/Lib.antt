@@ -8,7 +8,6 @@ pub mod NumberLemmas
 pub mod KnownLemmas
 pub mod ReadingLemmas
 pub mod RightLemmas
-pub mod FullLemmas
 pub mod SoundLemmas
 pub mod SoundTextLemmas
 pub mod MasterLemmas

@@ -15,13 +15,13 @@ use Rattle.sm_agents.specs.declared.kinds.Kind.TheVariants.{Marriage, Hospitals,
 use Rattle.sm_agents.specs.declared.kinds.Side.{Side}
 use Rattle.sm_agents.specs.declared.kinds.Side.TheVariants.{Proposers, Reviewers}
 use Rattle.sm_agents.specs.Named.{Said, entries_of, entries_of_masters}
-use Rattle.sm_keys.specs.Tables.{Table, Extends, Declares, IsListed, text_at}
+use Rattle.sm_keys.specs.Tables.{has_repeated, Table, Extends, Declares, IsListed, text_at}
 use Rattle.sm_keys.specs.Tokens.{is_bad}
 use Rattle.sm_keys.proofs.RunLemmas.{run_no_bad}
 use Rattle.sm_keys.proofs.WholeLemmas.{and_left, and_right}
 use Rattle.sm_reader.specs.Forms.{Form, declares, list_form, reviewer_form, two_sided_form, form_behind, form_under, has_two_sides, is_end}
 use Rattle.sm_reader.specs.Judging.{goes, verdict_on, of_form}
-use Rattle.sm_reader.specs.Draft.{listed_table, agent_in, master_in, said_of, table_on, declared_on, listed_side, ChangesNames, IsDraft, AddsAgent, AreRunsRight, IsLineFault, IsRefusedBy, JudgesTokens, DeclaresOn, ListsOn, name_fault}
+use Rattle.sm_reader.specs.Draft.{listed_table, agent_in, master_in, said_of, table_on, declared_on, listed_side, ChangesNames, IsDraft, AddsAgent, AreRunsRight, IsLineFault, IsRefusedBy, JudgesTokens, DeclaresOn, ListsOn, limit_fault, name_fault}
 use Rattle.sm_reader.specs.Listed.{side_by, DeclaresSide, IsAgentLine, ListsOnLine, AddsNamesOn, ListsLineOn, PutsDeclared, IsPutFault, KeepsSaid, AddsAgentLine, AddsLine, IsAgentFault}
 use Rattle.sm_reader.specs.declared.draft.Declared.{Declared}
 use Rattle.sm_reader.specs.declared.draft.Draft.{Draft}
@@ -135,7 +135,7 @@ module _ (kind : Kind) (line : ℕ) (d : Draft) (pn rn : Table) (draft : IsDraft
       (draft.counted ∙ counts _ _ _ _ (ap entries_of proposers_same) (ap entries_of reviewers_same))
       draft.entries_fit draft.proposers_fit draft.reviewers_fit
     where
-      counts : (a b t u : ℕ) → t ≡ a → u ≡ b → a + b + entries_of_masters (map master_in d.masters.items) ≡ t + u + entries_of_masters (map master_in d.masters.items)
+      counts : (a b t u : ℕ) → t ≡ a → u ≡ b → a + b + entries_of_masters (map master_in d.masters.entries) ≡ t + u + entries_of_masters (map master_in d.masters.entries)
       counts a b t u e f = omega arith
 
   kept : KeepsSaid kind line d renamed
@@ -146,10 +146,6 @@ module _ (kind : Kind) (line : ℕ) (d : Draft) (pn rn : Table) (draft : IsDraft
       reviewers_declared = later.reviewers_declared;
       proposers_in = later.proposers_in;
       reviewers_in = later.reviewers_in;
-      weights_in = later.weights_in;
-      forced_in = later.forced_in;
-      forbidden_in = later.forbidden_in;
-      weighed = later.weighed;
       counted = later.counted;
       entries_fit = later.entries_fit;
       proposers_fit = later.proposers_fit;
@@ -158,7 +154,6 @@ module _ (kind : Kind) (line : ℕ) (d : Draft) (pn rn : Table) (draft : IsDraft
       reviewers_fresh = r_fresh;
       few = draft.few;
       masters = later.masters;
-      order_in = later.order_in;
     };
   }
 
@@ -291,6 +286,16 @@ two_sided Roommates other = absurd (other refl)
 pub side_found : (kind : Kind) (word : List ℕ) (r : Option Side) → kind ≢ Roommates → r ≡ side_by word → IfSome r (λ side. DeclaresSide kind word side)
 side_found kind word None other e = tt
 side_found kind word (Some side) other e = declares_side kind word side (two_sided kind other) (sym e)
+
+-- an agent whose name is new and whose list has no name twice is refused against the limits
+pub past_limits : (side : Side) (d mid : Draft) (name : List ℕ) (entries : List (List ℕ)) (line : ℕ) (f : TextFault) → DeclaresOn side d mid name → has_repeated entries ≡ false
+    → IsLineFault (limit_fault (length (declared_on side mid)) mid.entries (length entries)) line f → IsLineFault (name_fault (table_on side d).declared name entries (length (declared_on side d)) d.entries) line f
+past_limits Proposers d mid name entries line f opens differ h =
+    let is_new = opens.is_new in
+    rw (is_new, differ) (subst (λ (x : Draft). IsLineFault (limit_fault (length x.proposers.items) x.entries (length entries)) line f) opens.changes h)
+past_limits Reviewers d mid name entries line f opens differ h =
+    let is_new = opens.is_new in
+    rw (is_new, differ) (subst (λ (x : Draft). IsLineFault (limit_fault (length x.reviewers.items) x.entries (length entries)) line f) opens.changes h)
 
 -- the line of an agent is refused for the fault of its name or against the limits
 pub line_refused : (kind : Kind) (line : ℕ) (d d1 : Draft) (name : Bor (List ℕ)) (entries : List (List ℕ)) (ids : Vec ℕ Global) (side : Side) (f : TextFault) → has_two_sides kind ≡ true → is_name name.now ≡ true

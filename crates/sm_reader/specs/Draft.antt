@@ -1,26 +1,29 @@
 -- What a `Draft` says, what it has to meet, and what a line does to it.
-use Rattle.std.specs.Prelude.{◌≡◌, ℕ, ◌+◌, ◌<◌, ◌≤◌, true, false, List, [], ◌∷◌, ◌++◌, length, map, Bool, Option, Some, None, is_some, slice_index, unwrap_or, All}
+use Rattle.std.specs.Prelude.{◌≡◌, ℕ, ◌+◌, ◌<◌, ◌≤◌, ◌||◌, true, false, List, [], ◌∷◌, ◌++◌, length, map, drop, Bool, Option, Some, None, is_none, slice_index, unwrap_or, All, Vec}
 use Rattle.std.specs.List.{list_any, list_all}
 use Rattle.std.specs.Option.{option_map, option_and_then}
 use Rattle.std.specs.Str.{bytes_eq}
-use Rattle.indexmap.specs.IndexSet.{keys}
 use Rattle.sm_text.specs.Limits.{most_agents, most_entries}
 use Rattle.sm_text.specs.Name.{is_name}
 use Rattle.sm_text.specs.declared.refusal.RefusalKind.{RefusalKind}
+use Rattle.sm_text.specs.declared.refusal.RefusalKind.TheVariants.{RepeatedEntry}
+use Rattle.std.specs.Borrow.{Bor}
+use Rattle.std.specs.declared.alloc.Global.{Global}
 use Rattle.sm_agents.specs.declared.kinds.Kind.{Kind}
 use Rattle.sm_agents.specs.declared.kinds.Kind.TheVariants.{Marriage, Hospitals, Roommates}
 use Rattle.sm_agents.specs.declared.kinds.Side.{Side}
 use Rattle.sm_agents.specs.declared.kinds.Side.TheVariants.{Proposers, Reviewers}
-use Rattle.sm_agents.specs.Named.{SaidAgent, SaidPair, SaidWeight, SaidMaster, SaidOrder, Said, all_entries, entries_named}
+use Rattle.sm_agents.specs.Named.{SaidAgent, SaidPair, SaidWeight, SaidMaster, SaidOrder, Said, all_entries, entries_named, master_names}
 use Rattle.sm_reader.specs.Forms.{Form, declares, uses, shares, orders, weighs, binds}
-use Rattle.sm_reader.specs.Judging.{Verdict, goes, stops, refuses, first_fault, run_rows, name_rows, entry_rows, limit_rows, order_rows, weight_rows, capacity_in, weight_in, second_in, fault_of, with_agent, said_with, verdict_on}
-use Rattle.sm_keys.specs.Tables.{Table, text_at, AreBelow, Interns, Declares, IsListed}
+use Rattle.sm_reader.specs.Judging.{Verdict, goes, stops, refuses, first_fault, run_rows, name_rows, entry_rows, limit_rows, order_rows, weight_rows, capacity_in, weight_in, second_in, fault_of, with_agent, said_with, weight_of, verdict_on}
+use Rattle.sm_keys.specs.Tables.{Table, text_at, AreBelow, Declares, IsListed, has_repeated}
 use Rattle.sm_keys.specs.Tokens.{AreNamesAtEnd}
 use Rattle.sm_text.specs.Slices.{texts_of}
 use Rattle.sm_reader.specs.declared.draft.Declared.{Declared}
 use Rattle.sm_reader.specs.declared.draft.Pair.{Pair}
-use Rattle.sm_reader.specs.declared.draft.Weight.{Weight}
-use Rattle.sm_reader.specs.declared.draft.Master.{Master}
+use Rattle.sm_reader.specs.declared.draft.Weights.{Weights}
+use Rattle.sm_keys.specs.Keys.{spelled}
+use Rattle.sm_keys.specs.declared.text_key.TextKey.{TextKey}
 use Rattle.sm_reader.specs.declared.draft.Order.{Order}
 use Rattle.sm_reader.specs.declared.draft.Draft.{Draft}
 use Rattle.sm_reader.specs.declared.faults.TextFault.{TextFault}
@@ -32,6 +35,8 @@ use Rattle.sm_reader.specs.declared.forms.Condition.TheVariants.{Force, Forbid}
 use Rattle.sm_reader.specs.declared.judging.AgentRuns.{AgentRuns}
 use Rattle.sm_reader.specs.declared.judging.Step.{Step}
 use Rattle.sm_reader.specs.declared.judging.Step.TheVariants.{Goes, Stops}
+use Rattle.sm_reader.specs.declared.judging.Judged.{Judged}
+use Rattle.sm_reader.specs.declared.judging.Judged.TheVariants.{Added, Orders, Ends}
 
 -- a form, as plain data
 abbrev pub form_of : Line → Form
@@ -68,35 +73,33 @@ listed_side _ Reviewers = Proposers
 abbrev pub agent_in : List (List ℕ) → Declared → SaidAgent
 agent_in texts a = record { name = a.name.now; capacity = a.capacity; line = a.line; entries = map (text_at texts) a.entries.items }
 
--- a pair with the names of its indexes
-abbrev pub pair_in : List (List ℕ) → List (List ℕ) → Pair → SaidPair
-pair_in proposers reviewers x = record { proposer = text_at proposers x.proposer; reviewer = text_at reviewers x.reviewer; line = x.line }
+-- a pair that a line names
+abbrev pub pair_in : Pair → SaidPair
+pair_in x = record { proposer = x.proposer.now; reviewer = x.reviewer.now; line = x.line }
 
--- a weight with the names of its pair
-abbrev pub given_in : List (List ℕ) → List (List ℕ) → Weight → SaidWeight
-given_in proposers reviewers w = record { pair = pair_in proposers reviewers w.pair; weight = w.weight; second = w.second }
+-- the weights of a pair
+abbrev pub given_in : (TextKey × TextKey) × Weights → SaidWeight
+given_in x = record { pair = record { proposer = spelled x.0.0; reviewer = spelled x.0.1; line = x.1.line }; weight = x.1.weight; second = x.1.second }
 
--- a master list with its names
-abbrev pub master_in : Master → SaidMaster
-master_in m = record { name = m.name.now; entries = texts_of m.entries.items }
+-- a master list with its name
+abbrev pub master_in : TextKey × Vec (Bor (List ℕ)) Global → SaidMaster
+master_in m = record { name = spelled m.0; entries = texts_of m.1.items }
 
--- an order with the names of its indexes
-abbrev pub order_of : List (List ℕ) → Order → SaidOrder
-order_of proposers o = record { names = map (text_at proposers) o.names.items; line = o.line }
+-- an order: the names stand behind the first token of its line
+abbrev pub order_of : Order → SaidOrder
+order_of o = record { names = drop 1 (texts_of o.tokens.items); line = o.line }
 
 -- what a draft says
 abbrev pub said_of : Kind → Draft → Said
 said_of kind d =
-    let proposers = d.proposer_names.texts in
-    let reviewers = d.reviewer_names.texts in
     record {
       proposers = map (agent_in (listed_table kind d.proposer_names d.reviewer_names).texts) d.proposers.items;
-      reviewers = map (agent_in proposers) d.reviewers.items;
-      weights = map (given_in proposers reviewers) d.weights.items;
-      forced = map (pair_in proposers reviewers) d.forced.items;
-      forbidden = map (pair_in proposers reviewers) d.forbidden.items;
-      masters = map master_in d.masters.items;
-      order = option_map (order_of proposers) d.order;
+      reviewers = map (agent_in d.proposer_names.texts) d.reviewers.items;
+      weights = map given_in d.weights.entries;
+      forced = map pair_in d.forced.items;
+      forbidden = map pair_in d.forbidden.items;
+      masters = map master_in d.masters.entries;
+      order = option_map order_of d.order;
     }
 
 -- all indexes of lists and of pairs are in range
@@ -104,59 +107,25 @@ abbrev pub AreAgentsBelow : ℕ → List Declared → Type 0
 AreAgentsBelow n [] = Unit {0}
 AreAgentsBelow n (a ∷ agents) = AreBelow n a.entries.items × AreAgentsBelow n agents
 
--- the indexes of a pair are in range
-pub record IsPairBelow (proposers reviewers : ℕ) (x : Pair) : Type 0 where
-  pub proposer : x.proposer < proposers
-  pub reviewer : x.reviewer < reviewers
-
--- those of each pair are
-abbrev pub ArePairsBelow : ℕ → ℕ → List Pair → Type 0
-ArePairsBelow proposers reviewers [] = Unit {0}
-ArePairsBelow proposers reviewers (x ∷ pairs) = IsPairBelow proposers reviewers x × ArePairsBelow proposers reviewers pairs
-
--- the pairs that have weights
-abbrev pub pairs_of : List Weight → List Pair
-pairs_of weights = map (λ (w : Weight). w.pair) weights
-
--- the pair of a weight by its indexes
-abbrev pub key_of : Weight → ℕ × ℕ
-key_of w = (w.pair.proposer, w.pair.reviewer)
-
--- the indexes of an order are in range
-abbrev pub IsOrderBelow : ℕ → Option Order → Type 0
-IsOrderBelow n None = Unit {0}
-IsOrderBelow n (Some o) = AreBelow n o.names.items
-
 -- every name on a master list is a name
-abbrev pub HasNames : Master → Type 0
-HasNames m = list_all is_name (texts_of m.entries.items) ≡ true
+abbrev pub HasNames : TextKey × Vec (Bor (List ℕ)) Global → Type 0
+HasNames m = list_all is_name (texts_of m.1.items) ≡ true
 
--- the names of master lists are those that are declared, and the names on them are names
-pub record AreMastersNamed (declared : List (List ℕ)) (masters : List Master) : Type 0 where
-  pub are_declared : declared ≡ map (λ (m : Master). m.name.now) masters
-  pub named : All HasNames masters
-
--- Before the line of a number a draft has the declared agents' names in their tables, as it has those of the master lists,
--- all indexes in range, the pairs that have a weight, and its entries counted. Limits are kept, and no name has the stamp of
--- this line. There are fewer pairs than lines, and fewer master lists.
+-- Before the line of a number a draft has the declared agents' names in their tables, all indexes in range, and its entries counted.
+-- Limits are kept, and no name has the stamp of this line. There are fewer pairs than lines, and the names on master lists are names.
 pub record IsDraft (kind : Kind) (line : ℕ) (d : Draft) : Type 0 where
   pub proposers_declared : d.proposer_names.declared ≡ map (λ (a : Declared). a.name.now) d.proposers.items
   pub reviewers_declared : d.reviewer_names.declared ≡ map (λ (a : Declared). a.name.now) d.reviewers.items
   pub proposers_in : AreAgentsBelow (length (listed_table kind d.proposer_names d.reviewer_names).texts) d.proposers.items
   pub reviewers_in : AreAgentsBelow (length d.proposer_names.texts) d.reviewers.items
-  pub weights_in : ArePairsBelow (length d.proposer_names.texts) (length d.reviewer_names.texts) (pairs_of d.weights.items)
-  pub forced_in : ArePairsBelow (length d.proposer_names.texts) (length d.reviewer_names.texts) d.forced.items
-  pub forbidden_in : ArePairsBelow (length d.proposer_names.texts) (length d.reviewer_names.texts) d.forbidden.items
-  pub weighed : keys d.weighed ≡ map key_of d.weights.items
   pub counted : d.entries ≡ all_entries (said_of kind d)
   pub entries_fit : d.entries ≤ most_entries
   pub proposers_fit : length d.proposers.items ≤ most_agents
   pub reviewers_fit : length d.reviewers.items ≤ most_agents
   pub proposers_fresh : (k : ℕ) → slice_index d.proposer_names.stamps k < line
   pub reviewers_fresh : (k : ℕ) → slice_index d.reviewer_names.stamps k < line
-  pub few : length d.weights.items + length d.forced.items + length d.forbidden.items + length d.masters.items + 1 < line
-  pub masters : AreMastersNamed d.master_names.declared d.masters.items
-  pub order_in : IsOrderBelow (length d.proposer_names.texts) d.order
+  pub few : length d.weights.entries + length d.forced.items + length d.forbidden.items + 1 < line
+  pub masters : All HasNames d.masters.entries
 
 -- a line is refused for this fault, if there is one; want of memory says nothing
 abbrev pub IsLineFault : Option RefusalKind → ℕ → TextFault → Type 0
@@ -169,10 +138,51 @@ pub record AddsForm (kind : Kind) (line : ℕ) (form : Form) (old new : Draft) :
   pub said : said_of kind new ≡ said_with (said_of kind old) line form
   pub draft : IsDraft kind (line + 1) new
 
--- a line is judged by its tokens
+-- a line goes on with what it says, or ends the instance
 abbrev pub JudgesTokens : Kind → (format : ℕ) → ℕ → List (List ℕ) → Draft → Draft → Step → Type 0
 JudgesTokens kind format line tokens old new Goes = (verdict_on kind format (said_of kind old) line tokens ≡ goes (said_of kind new)) × IsDraft kind (line + 1) new
 JudgesTokens kind format line tokens old new Stops = (verdict_on kind format (said_of kind old) line tokens ≡ stops) × (said_of kind new ≡ said_of kind old) × IsDraft kind line new
+
+-- the names that an order has are those of a list
+abbrev pub IsOrderOf : List (List ℕ) → Line → Type 0
+IsOrderOf names (OrderLine proposers) = texts_of proposers.now ≡ names
+IsOrderOf names (AgentLine _ _ _ _) = Unit {0}
+IsOrderOf names (UseLine _ _ _ _) = Unit {0}
+IsOrderOf names (MasterLine _ _) = Unit {0}
+IsOrderOf names (WeightLine _ _ _ _) = Unit {0}
+IsOrderOf names (PairLine _ _ _) = Unit {0}
+
+-- a line orders proposers
+abbrev pub IsOrdering : Line → Type 0
+IsOrdering (OrderLine _) = Unit {0}
+IsOrdering (AgentLine _ _ _ _) = false ≡ true
+IsOrdering (UseLine _ _ _ _) = false ≡ true
+IsOrdering (MasterLine _ _) = false ≡ true
+IsOrdering (WeightLine _ _ _ _) = false ≡ true
+IsOrdering (PairLine _ _ _) = false ≡ true
+
+-- what is said with an order
+abbrev pub said_ordered : Said → ℕ → List (List ℕ) → Said
+said_ordered said line names = record said { order = Some (record { names = names; line = line }) }
+
+-- a faultless line of a form has added what it says, or orders these proposers and has added nothing yet
+abbrev pub AddsBy : Kind → ℕ → Line → Draft → Draft → Judged → Type 0
+AddsBy kind line form old new Added = AddsForm kind line (form_of form) old new
+AddsBy kind line form old new Orders = (fault_of (said_of kind old) (form_of form) ≡ None) × IsOrdering form × (new ≡ old)
+AddsBy kind line form old new Ends = false ≡ true
+
+-- a line is judged by its tokens: what it says is added, or it orders the proposers behind its first token, or it ends the instance
+abbrev pub IsJudged : Kind → (format : ℕ) → ℕ → List (List ℕ) → Draft → Draft → Judged → Type 0
+IsJudged kind format line tokens old new Added = JudgesTokens kind format line tokens old new Goes
+IsJudged kind format line tokens old new Orders = (verdict_on kind format (said_of kind old) line tokens ≡ goes (said_ordered (said_of kind old) line (drop 1 tokens))) × (new ≡ old)
+IsJudged kind format line tokens old new Ends = JudgesTokens kind format line tokens old new Stops
+
+-- a draft has got the order of the proposers behind the first of these tokens
+pub record KeepsOrder (line : ℕ) (tokens : List (List ℕ)) (old new : Draft) : Type 0 where
+  pub order : Order
+  pub tokens_are : texts_of order.tokens.items ≡ tokens
+  pub on_line : order.line ≡ line
+  pub changes : new ≡ record old { order = Some order }
 
 -- a verdict refuses the line for this fault; want of memory says nothing
 abbrev pub IsRefusedBy : Verdict → ℕ → TextFault → Type 0
@@ -199,6 +209,10 @@ master_fault declared name entries all = first_fault (name_rows declared name en
 -- the first fault of the line of an order
 abbrev pub order_fault : Bool → List (List ℕ) → Option RefusalKind
 order_fault ordered proposers = first_fault (order_rows ordered proposers)
+
+-- an agent's list is refused that is longer than what is left to entries; want of memory says nothing
+abbrev pub IsLongFault : (agents all : ℕ) → List (List ℕ) → ℕ → TextFault → Type 0
+IsLongFault agents all entries line f = IsLineFault (first_fault ((has_repeated entries, RepeatedEntry) ∷ limit_rows agents all (length entries))) line f
 
 -- the runs of an agent's line are right, and its capacity is this
 pub record AreRunsRight (name : List ℕ) (capacity : Option (List ℕ)) (entries : List (List ℕ)) (n : ℕ) : Type 0 where
@@ -248,33 +262,31 @@ abbrev pub RefusesFor : RefusalKind → ℕ → Type 0 → TextFault → Type 0
 RefusesFor kind line P (Refused k at) = (k ≡ kind) × (at ≡ line) × P
 RefusesFor kind line P OutOfMemory = Unit {0}
 
--- the pair of two names, which have indexes on their sides
-pub record PairsOf (old new : Draft) (proposer reviewer : List ℕ) (line : ℕ) (pair : Pair) : Type 0 where
-  pub are_names : list_all is_name (proposer ∷ reviewer ∷ []) ≡ true
-  pub named_proposer : Interns old.proposer_names new.proposer_names proposer pair.proposer
-  pub named_reviewer : Interns old.reviewer_names new.reviewer_names reviewer pair.reviewer
-  pub on_line : pair.line ≡ line
-  pub changes : new ≡ record old { proposer_names = new.proposer_names; reviewer_names = new.reviewer_names }
-
 -- what draft says of weights
 abbrev pub weights_in : Draft → List SaidWeight
-weights_in d = map (given_in d.proposer_names.texts d.reviewer_names.texts) d.weights.items
+weights_in d = map given_in d.weights.entries
 
 -- the first fault of a weight's line
 abbrev pub weight_fault : List SaidWeight → List ℕ → List ℕ → List ℕ → Option (List ℕ) → Option RefusalKind
 weight_fault weights proposer reviewer weight second = first_fault (weight_rows weights proposer reviewer weight second)
 
+-- the weights that runs spell on a line, unless one is no number within the limit
+pub record AreSpelled (run : List ℕ) (further : Option (List ℕ)) (line : ℕ) (weights : Weights) : Type 0 where
+  pub weight : weight_in run ≡ Some weights.weight
+  pub second : second_in further ≡ Some weights.second
+  pub on_line : weights.line ≡ line
+
+abbrev pub IsWeighed : List ℕ → Option (List ℕ) → ℕ → Option Weights → Type 0
+IsWeighed run further line None = (is_none (weight_in run) || is_none (second_in further)) ≡ true
+IsWeighed run further line (Some weights) = AreSpelled run further line weights
+
 -- a pair has got its first weights
 pub record PutsWeight (old new : Draft) (proposer reviewer run : List ℕ) (further : Option (List ℕ)) (line : ℕ) : Type 0 where
-  pub mid : Draft
-  pub added : Weight
-  pub paired : PairsOf old mid proposer reviewer line added.pair
+  pub added : (TextKey × TextKey) × Weights
   pub faultless : weight_fault (weights_in old) proposer reviewer run further ≡ None
-  pub weight : weight_in run ≡ Some added.weight
-  pub second : second_in further ≡ Some added.second
-  pub weights : new.weights.items ≡ mid.weights.items ++ added ∷ []
-  pub weighed : keys new.weighed ≡ keys mid.weighed ++ key_of added ∷ []
-  pub changes : new ≡ record mid { weights = new.weights; weighed = new.weighed }
+  pub given : given_in added ≡ weight_of line proposer reviewer run further
+  pub weights : new.weights.entries ≡ old.weights.entries ++ added ∷ []
+  pub changes : new ≡ record old { weights = new.weights }
 
 -- the pairs of which something is asked
 abbrev pub pairs_on : Condition → Draft → List Pair
@@ -293,10 +305,10 @@ pub record PutsPair (condition : Condition) (old new : Draft) (pair : Pair) : Ty
 
 -- something is asked of the pair of two names
 pub record Binds (condition : Condition) (old new : Draft) (proposer reviewer : List ℕ) (line : ℕ) : Type 0 where
-  pub mid : Draft
   pub pair : Pair
-  pub paired : PairsOf old mid proposer reviewer line pair
-  pub puts : PutsPair condition mid new pair
+  pub are_names : list_all is_name (proposer ∷ reviewer ∷ []) ≡ true
+  pub is : pair_in pair ≡ record { proposer = proposer; reviewer = reviewer; line = line }
+  pub puts : PutsPair condition old new pair
 
 -- an agent is declared without a fault of names and limits
 pub record AddsAgent (kind : Kind) (line : ℕ) (side : Side) (name : List ℕ) (capacity : ℕ) (entries : List (List ℕ)) (old new : Draft) : Type 0 where
@@ -310,30 +322,19 @@ runs_form agent = declares agent.side agent.name.now (option_map (λ x. x.now) a
 
 -- a master list that stands above, with the names on it
 pub record IsMaster (d : Draft) (master : List ℕ) (entries : List (List ℕ)) : Type 0 where
-  pub found : entries_named (map master_in d.masters.items) master ≡ Some entries
+  pub found : entries_named (map master_in d.masters.entries) master ≡ Some entries
   pub are_names : AreNamesAtEnd (length entries) entries
 
--- a master list has got its name, which is new
-pub record DeclaresMaster (old new : Draft) (name : List ℕ) : Type 0 where
-  pub is_new : list_any (bytes_eq name) old.master_names.declared ≡ false
-  pub declares : Declares old.master_names new.master_names name true
-  pub changes : new ≡ record old { master_names = new.master_names }
+-- the names of the master lists
+abbrev pub masters_declared : Draft → List (List ℕ)
+masters_declared d = master_names (map master_in d.masters.entries)
 
--- a master list stands behind the others, within the limit of entries
+-- a master list stands behind the others
 pub record PutsMaster (old new : Draft) (name : List ℕ) (entries : List (List ℕ)) : Type 0 where
-  pub master : Master
-  pub is_name : master.name.now ≡ name
-  pub is_list : texts_of master.entries.items ≡ entries
+  pub master : TextKey × Vec (Bor (List ℕ)) Global
+  pub faultless : master_fault (masters_declared old) name entries old.entries ≡ None
+  pub is : master_in master ≡ record { name = name; entries = entries }
   pub fits : old.entries + length entries ≤ most_entries
-  pub masters : new.masters.items ≡ old.masters.items ++ master ∷ []
+  pub masters : new.masters.entries ≡ old.masters.entries ++ master ∷ []
   pub entries_more : new.entries ≡ old.entries + length entries
   pub changes : new ≡ record old { masters = new.masters; entries = new.entries }
-
--- proposers come first by their indexes, where no line said this before
-pub record PutsOrder (old new : Draft) (proposers : List (List ℕ)) (line : ℕ) : Type 0 where
-  pub mid : Draft
-  pub order : Order
-  pub faultless : order_fault (is_some old.order) proposers ≡ None
-  pub lists : ListsOn Proposers old mid proposers line order.names.items
-  pub on_line : order.line ≡ line
-  pub changes : new ≡ record mid { order = Some order }

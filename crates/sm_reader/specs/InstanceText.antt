@@ -1,6 +1,6 @@
 -- What a text means: an instance, or the first thing that stands in its way. `instance_text` is what the reading promises.
-use Rattle.std.specs.Prelude.{if◌then◌else◌, ◌≡◌, ℕ, ◌+◌, ◌==◌, ◌||◌, not, List, [], ◌∷◌, ◌++◌, length, map, filter, min, nat_lt, Option, Some, None, Result, Ok, Err}
-use Rattle.std.specs.List.{list_any, range_with_len}
+use Rattle.std.specs.Prelude.{if◌then◌else◌, ◌≡◌, ℕ, ◌+◌, ◌||◌, List, [], ◌∷◌, ◌++◌, length, map, filter, min, nat_lt, Option, Some, None, Result, Ok, Err}
+use Rattle.std.specs.List.{list_any}
 use Rattle.std.specs.Option.{option_map_or}
 use Rattle.sm_text.specs.Limits.{most_bytes}
 use Rattle.sm_text.specs.Lines.{lines, content}
@@ -14,6 +14,7 @@ use Rattle.sm_instance.specs.declared.inputs.Input.{Input}
 use Rattle.sm_instance.specs.declared.inputs.Input.TheVariants.{Two, Room}
 use Rattle.sm_agents.specs.Named.{SaidAgent, SaidPair, SaidWeight, SaidOrder, Said, nothing, names_of, names_first}
 use Rattle.sm_keys.specs.Tables.{is_unknown, number_in}
+use Rattle.sm_order.specs.Full.{full_order}
 use Rattle.sm_reader.specs.Judging.{verdict_on, by_verdict, heading_of, by_heading}
 use Rattle.sm_reader.specs.declared.reading.Read.{Read}
 use Rattle.sm_reader.specs.declared.faults.TextFault.{TextFault}
@@ -67,10 +68,6 @@ numbered names agent = record { name = agent.name; capacity = agent.capacity; li
 -- a pair with numbers for its names
 abbrev pub numbered_pair : Said → SaidPair → ℕ × ℕ
 numbered_pair said pair = (number_in (names_of said.proposers) pair.proposer, number_in (names_of said.reviewers) pair.reviewer)
-
--- the numbers below a count: first these, in their order, and then the others, which rise
-abbrev pub full_order : ℕ → List ℕ → List ℕ
-full_order count first = first ++ filter (λ (n : ℕ). not (list_any (λ (m : ℕ). m == n) first)) (range_with_len 0 count)
 
 -- the order of the proposers: first those that a line names, and then the others by number
 abbrev pub order_in : Said → List ℕ

@@ -1,5 +1,5 @@
 -- What the numbering of names takes and gives.
-use Rattle.std.specs.Prelude.{if◌then◌else◌, ◌≡◌, ◌≢◌, ℕ, ◌+◌, ◌≤◌, length, map, Bool, List, Option, Some, None, Result, Ok, ℤ}
+use Rattle.std.specs.Prelude.{if◌then◌else◌, ◌≡◌, ◌≢◌, ℕ, ◌+◌, ◌≤◌, ◌++◌, length, map, Bool, List, Option, Some, None, Result, Ok, ℤ}
 use Rattle.sm_agents.specs.declared.kinds.Kind.{Kind}
 use Rattle.sm_agents.specs.declared.kinds.Kind.TheVariants.{Roommates}
 use Rattle.sm_agents.specs.declared.agents.Agent.{Agent}
@@ -7,8 +7,9 @@ use Rattle.sm_agents.specs.declared.parts.Parts.{Parts}
 use Rattle.sm_agents.specs.Vectors.{agents_of}
 use Rattle.sm_agents.specs.Named.{SaidPair, SaidWeight, names_first}
 use Rattle.sm_keys.specs.Tables.{number_in, Table}
-use Rattle.sm_reader.specs.InstanceText.{numbered, full_order, unknown_lines, least}
-use Rattle.sm_reader.specs.Draft.{IsDraft, said_of, agent_in, pair_in, given_in, order_of}
+use Rattle.sm_reader.specs.InstanceText.{numbered, lines_with_unknown, unknown_lines, least}
+use Rattle.sm_order.specs.Full.{full_order}
+use Rattle.sm_reader.specs.Draft.{IsDraft, said_of, listed_table, agent_in, pair_in, given_in, order_of}
 use Rattle.sm_reader.specs.Right.{IsRight}
 use Rattle.sm_text.specs.Limits.{most_bytes, most_agents}
 use Rattle.sm_text.specs.declared.refusal.RefusalKind.TheVariants.{UnknownName}
@@ -16,7 +17,8 @@ use Rattle.sm_reader.specs.declared.draft.Draft.{Draft}
 use Rattle.sm_reader.specs.declared.draft.Declared.{Declared}
 use Rattle.sm_reader.specs.declared.draft.Order.{Order}
 use Rattle.sm_reader.specs.declared.draft.Pair.{Pair}
-use Rattle.sm_reader.specs.declared.draft.Weight.{Weight}
+use Rattle.sm_reader.specs.declared.draft.Weights.{Weights}
+use Rattle.sm_keys.specs.declared.text_key.TextKey.{TextKey}
 use Rattle.sm_reader.specs.declared.numbering.BothNumbered.{BothNumbered}
 use Rattle.sm_reader.specs.declared.numbering.SaidNumbered.{SaidNumbered}
 use Rattle.std.specs.Option.{option_map}
@@ -35,6 +37,21 @@ pair_among proposers reviewers x = (number_in proposers x.proposer, number_in re
 -- a weight with numbers for the names of its pair
 abbrev pub weight_among : List (List ℕ) → List (List ℕ) → SaidWeight → ℕ × ℕ × ℤ
 weight_among proposers reviewers w = (number_in proposers w.pair.proposer, number_in reviewers w.pair.reviewer, w.weight)
+
+-- the pair of which these are the weights
+abbrev pub weighed_pair : (TextKey × TextKey) × Weights → SaidPair
+weighed_pair x = (given_in x).pair
+
+-- the second weight
+abbrev pub second_of : (TextKey × TextKey) × Weights → ℤ
+second_of x = x.1.second
+
+-- the lines of agents that list one who isn't declared
+abbrev pub agents_with_unknown : Kind → Draft → List ℕ
+agents_with_unknown kind d =
+    let p = d.proposer_names in
+    let t = listed_table kind d.proposer_names d.reviewer_names in
+    lines_with_unknown t.declared (map (agent_in t.texts) d.proposers.items) ++ lines_with_unknown p.declared (map (agent_in p.texts) d.reviewers.items)
 
 -- a draft before a line that isn't past the last of a text, after lines without a fault
 pub record IsReady (kind : Kind) (d : Draft) : Type 0 where
@@ -62,28 +79,24 @@ NumbersPersons d persons =
 pub record NumbersSides (d : Draft) (sides : Parts) : Type 0 where
   pub proposers : let r = d.reviewer_names in agents_of sides.proposers.items ≡ map (numbered r.declared) (map (agent_in r.texts) d.proposers.items)
   pub reviewers : let p = d.proposer_names in agents_of sides.reviewers.items ≡ map (numbered p.declared) (map (agent_in p.texts) d.reviewers.items)
-  pub weights : let p = d.proposer_names in let r = d.reviewer_names in
-      sides.weights.items ≡ map (weight_among p.declared r.declared) (map (given_in p.texts r.texts) d.weights.items)
-  pub forced : let p = d.proposer_names in let r = d.reviewer_names in
-      sides.forced.items ≡ map (pair_among p.declared r.declared) (map (pair_in p.texts r.texts) d.forced.items)
-  pub forbidden : let p = d.proposer_names in let r = d.reviewer_names in
-      sides.forbidden.items ≡ map (pair_among p.declared r.declared) (map (pair_in p.texts r.texts) d.forbidden.items)
-  pub seconds : sides.seconds.items ≡ map (λ (w : Weight). w.second) d.weights.items
-  pub order : let p = d.proposer_names in
-      sides.order.items ≡ full_order (length d.proposers.items) (map (number_in p.declared) (names_first (option_map (order_of p.texts) d.order)))
+  pub weights : sides.weights.items ≡ map (weight_among d.proposer_names.declared d.reviewer_names.declared) (map given_in d.weights.entries)
+  pub forced : sides.forced.items ≡ map (pair_among d.proposer_names.declared d.reviewer_names.declared) (map pair_in d.forced.items)
+  pub forbidden : sides.forbidden.items ≡ map (pair_among d.proposer_names.declared d.reviewer_names.declared) (map pair_in d.forbidden.items)
+  pub seconds : sides.seconds.items ≡ map second_of d.weights.entries
+  pub order : sides.order.items ≡ full_order (length d.proposers.items) (map (number_in d.proposer_names.declared) (names_first (option_map order_of d.order)))
 
 -- weights and conditions by number
-pub record NumbersSaid (p r : Table) (given : List Weight) (to_hold not_to : List Pair) (said : SaidNumbered) : Type 0 where
-  pub weights : said.weights.items ≡ map (weight_among p.declared r.declared) (map (given_in p.texts r.texts) given)
-  pub seconds : said.seconds.items ≡ map (λ (w : Weight). w.second) given
-  pub forced : said.forced.items ≡ map (pair_among p.declared r.declared) (map (pair_in p.texts r.texts) to_hold)
-  pub forbidden : said.forbidden.items ≡ map (pair_among p.declared r.declared) (map (pair_in p.texts r.texts) not_to)
+pub record NumbersSaid (proposers reviewers : List (List ℕ)) (given : List ((TextKey × TextKey) × Weights)) (to_hold not_to : List Pair) (said : SaidNumbered) : Type 0 where
+  pub weights : said.weights.items ≡ map (weight_among proposers reviewers) (map given_in given)
+  pub seconds : said.seconds.items ≡ map second_of given
+  pub forced : said.forced.items ≡ map (pair_among proposers reviewers) (map pair_in to_hold)
+  pub forbidden : said.forbidden.items ≡ map (pair_among proposers reviewers) (map pair_in not_to)
 
 -- the agents of both sides by number, and the order of the proposers
 pub record NumbersBoth (p r : Table) (ps rs : List Declared) (first : Option Order) (both : BothNumbered) : Type 0 where
   pub proposers : agents_of both.proposers.items ≡ map (numbered r.declared) (map (agent_in r.texts) ps)
   pub reviewers : agents_of both.reviewers.items ≡ map (numbered p.declared) (map (agent_in p.texts) rs)
-  pub order : both.order.items ≡ full_order (length ps) (map (number_in p.declared) (names_first (option_map (order_of p.texts) first)))
+  pub order : both.order.items ≡ full_order (length ps) (map (number_in p.declared) (names_first (option_map order_of first)))
 
 -- the parts of an instance, of which both halves are there
 pub record ArePartsOf (kind : Kind) (halves : Result BothNumbered AllocError) (rest : Result SaidNumbered AllocError) (parts : Parts) : Type 0 where

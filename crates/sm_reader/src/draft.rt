@@ -1,16 +1,17 @@
-//! What the lines so far say, with indexes in the place of names.
+//! What the lines so far say, with indexes in the place of names on lists.
 
 ghost use Rattle.std.specs.Prelude.{◌≡◌, ℕ, ◌<◌, IfOk};
-ghost use Rattle.indexmap.specs.IndexSet.{keys};
 ghost use Rattle.sm_reader.specs.Draft.{said_of, IsDraft};
 ghost use Rattle.sm_keys.specs.Tables.{no_names};
 ghost use Rattle.sm_agents.specs.Named.{nothing};
 ghost use Rattle.sm_agents.specs.declared.kinds.Kind.{Kind};
 
-use indexmap::IndexSet;
-use sm_keys::Names;
+use indexmap::IndexMap;
+use sm_keys::{Names, TextKey};
 use sm_text::{MOST_AGENTS, TextHash};
 use std::alloc::{AllocError, Global};
+use std::hash::Hash;
+use std::mem::swap;
 
 /// An agent as its line declares it, with the indexes of the names on its list.
 #[derive(Drop)]
@@ -21,66 +22,37 @@ pub(crate) struct Declared<'a> {
     pub(crate) entries: Vec<u32>,
 }
 
-/// A proposer and a reviewer that a line names, by the indexes of their names.
+/// A proposer and a reviewer that a line names.
 #[derive(Clone, Copy)]
-pub(crate) struct Pair {
-    pub(crate) proposer: u32,
-    pub(crate) reviewer: u32,
+pub(crate) struct Pair<'a> {
+    pub(crate) proposer: &'a [u8],
+    pub(crate) reviewer: &'a [u8],
     pub(crate) line: u32,
 }
 
-/// The weights that a line gives to a pair; the second is 0 where none is written.
+/// The weights that a line gives to a pair; the second is 0 where none is written. A weight within its limit fits four bytes.
 #[derive(Clone, Copy)]
-pub(crate) struct Weight {
-    pub(crate) pair: Pair,
-    pub(crate) weight: i64,
-    pub(crate) second: i64,
+pub(crate) struct Weights {
+    pub(crate) line: u32,
+    pub(crate) weight: i32,
+    pub(crate) second: i32,
 }
 
-/// A master list: its name, and the names on it.
-#[derive(Drop)]
-pub(crate) struct Master<'a> {
-    pub(crate) name: &'a [u8],
-    pub(crate) entries: Vec<&'a [u8]>,
-}
+/// The weights, by their pairs, in the order of their lines.
+pub(crate) type Weighed<'a> = IndexMap<(TextKey<'a>, TextKey<'a>), Weights, TextHash>;
 
-/// The proposers that come first, as a line says it, by the indexes of their names.
+/// The names on each master list, by the name of the list, in the order of their lines.
+pub(crate) type Masters<'a> = IndexMap<TextKey<'a>, Vec<&'a [u8]>, TextHash>;
+
+/// The proposers that come first, as a line says it: their names stand behind the first token of the line.
 #[derive(Drop)]
-pub(crate) struct Order {
-    pub(crate) names: Vec<u32>,
+pub(crate) struct Order<'a> {
+    pub(crate) tokens: Vec<&'a [u8]>,
     pub(crate) line: u32,
 }
 
-/// What a line says of a pair.
-pub(crate) trait OfPair: Copy {
-    ghost use Rattle.std.specs.Prelude.{◌≡◌};
-    ghost use Rattle.sm_reader.specs.declared.draft.Pair.{Pair};
-
-    /// The pair.
-    ghost pair_of: { Self → Pair };
-
-    /// The pair.
-    fn pair(self) -> Pair
-        ensures { result ≡ Self.pair_of self };
-}
-
-impl OfPair for Pair {
-    ghost pair_of = { λ pair. pair };
-
-    fn pair(self) -> Pair {
-        self
-    }
-}
-
-impl OfPair for Weight {
-    ghost pair_of = { λ weight. weight.pair };
-
-    fn pair(self) -> Pair {
-        self.pair
-    }
-}
-
-/// What the lines so far say. In roommates the persons stand as proposers.
+/// What the lines so far say. In roommates the persons stand as proposers. Names on the lists of agents have indexes; all others
+/// are kept as they stand, since a text may have far more of them than an instance has agents.
 #[derive(Drop)]
 pub(crate) struct Draft<'a> {
     /// The text.
@@ -91,15 +63,13 @@ pub(crate) struct Draft<'a> {
     pub(crate) reviewers: Vec<Declared<'a>>,
     /// How many entries all lists have together, master lists among them.
     pub(crate) entries: usize,
-    pub(crate) weights: Vec<Weight>,
-    /// The pairs that have a weight. The first one is put by hashes of the text.
-    pub(crate) weighed: IndexSet<(u32, u32), TextHash>,
-    pub(crate) forced: Vec<Pair>,
-    pub(crate) forbidden: Vec<Pair>,
-    /// The names of the master lists.
-    pub(crate) master_names: Names<'a>,
-    pub(crate) masters: Vec<Master<'a>>,
-    pub(crate) order: Option<Order>,
+    /// The first one is put by hashes of the text.
+    pub(crate) weights: Weighed<'a>,
+    pub(crate) forced: Vec<Pair<'a>>,
+    pub(crate) forbidden: Vec<Pair<'a>>,
+    /// The first one is put by hashes of the text.
+    pub(crate) masters: Masters<'a>,
+    pub(crate) order: Option<Order<'a>>,
 }
 
 /// For each agent of one side a text mostly has at least so many bytes: its line, and that of an agent of the other side.
@@ -114,7 +84,7 @@ pub(crate) fn empty<'a>(alloc: Global, text: &'a [u8]) -> Result<Draft<'a>, Allo
     let room = (text.len() / BYTES_EACH).min(MOST_AGENTS);
     let proposer_names = Names::new(alloc, text, room)?;
     match Names::new(alloc, text, room) {
-        Ok(reviewer_names) => empty_with(alloc, text, proposer_names, reviewer_names),
+        Ok(reviewer_names) => Ok(empty_with(alloc, text, proposer_names, reviewer_names)),
         Err(error) => {
             drop(proposer_names);
             Err(error)
@@ -128,44 +98,37 @@ fn empty_with<'a>(
     text: &'a [u8],
     proposer_names: Names<'a>,
     reviewer_names: Names<'a>,
-) -> Result<Draft<'a>, AllocError>
+) -> Draft<'a>
     requires proposers { proposer_names ≡ no_names }
     requires reviewers { reviewer_names ≡ no_names }
-    ensures said { IfOk result (λ d. (kind : Kind) → said_of kind d ≡ nothing) }
-    ensures draft { IfOk result (λ d. (kind : Kind) (line : ℕ) → 1 < line → IsDraft kind line d) }
+    ensures said { (kind : Kind) → said_of kind result ≡ nothing }
+    ensures draft { (kind : Kind) (line : ℕ) → 1 < line → IsDraft kind line result }
 {
-    match Names::new(alloc, text, 0) {
-        Ok(master_names) => Ok(Draft {
-            text,
-            proposer_names,
-            reviewer_names,
-            proposers: Vec::new(alloc),
-            reviewers: Vec::new(alloc),
-            entries: 0,
-            weights: Vec::new(alloc),
-            weighed: IndexSet::with_hasher(alloc, TextHash::of(&[])),
-            forced: Vec::new(alloc),
-            forbidden: Vec::new(alloc),
-            master_names,
-            masters: Vec::new(alloc),
-            order: None,
-        }),
-        Err(error) => {
-            drop(proposer_names);
-            drop(reviewer_names);
-            Err(error)
-        }
+    Draft {
+        text,
+        proposer_names,
+        reviewer_names,
+        proposers: Vec::new(alloc),
+        reviewers: Vec::new(alloc),
+        entries: 0,
+        weights: IndexMap::with_hasher(alloc, TextHash::of(&[])),
+        forced: Vec::new(alloc),
+        forbidden: Vec::new(alloc),
+        masters: IndexMap::with_hasher(alloc, TextHash::of(&[])),
+        order: None,
     }
 }
 
-/// Makes the set of the pairs that have a weight ready for one more: the first is put by hashes that the text can't choose,
-/// which take time in the length of the text.
-pub(crate) fn make_ready(draft: &mut Draft<'_>)
-    ensures keys { keys draft.new.weighed ≡ keys draft.old.weighed }
-    ensures changes { draft.new ≡ record draft.old { weighed = draft.new.weighed } }
+/// Makes a map ready for one more entry: the first is put by hashes that the text can't choose, which take time in the length of the
+/// text.
+pub(crate) fn make_ready<K: Eq + Hash + Drop, V: Drop>(
+    map: &mut IndexMap<K, V, TextHash>,
+    text: &[u8],
+)
+    ensures { map.new.entries ≡ map.old.entries }
 {
-    if draft.weighed.is_empty() {
-        let alloc = *draft.weighed.allocator();
-        draft.weighed = IndexSet::with_hasher(alloc, TextHash::of(draft.text));
+    if map.is_empty() {
+        let mut anew = IndexMap::with_hasher(*map.allocator(), TextHash::of(text));
+        swap(map, &mut anew);
     }
 }

@@ -1,6 +1,6 @@
 //! The forms of lines.
 
-ghost use Rattle.std.specs.Prelude.{◌≡◌};
+ghost use Rattle.std.specs.Prelude.{◌≡◌, IfSome};
 ghost use Rattle.std.specs.Option.{option_map};
 ghost use Rattle.std.specs.List.{list_all};
 ghost use Rattle.std.specs.Str.{bytes_eq};
@@ -8,7 +8,7 @@ ghost use Rattle.sm_text.specs.Tokens.{begins_run};
 ghost use Rattle.sm_reader.specs.Forms.{list_form, capacity_form, weight_form, pair_form, reviewer_form, two_sided_form, form_behind, is_end, header_of, kind_named, format_named, are_brackets, master_form, use_form, capacity_use_form, reviewer_use_form, order_form, second_form, two_sided_added_form, added_form, form_under};
 ghost use Rattle.sm_keys.specs.Tokens.{AreNamesAtEnd};
 ghost use Rattle.sm_text.specs.Slices.{texts_of};
-ghost use Rattle.sm_reader.specs.Draft.{form_of};
+ghost use Rattle.sm_reader.specs.Draft.{form_of, IsOrderOf};
 
 use sm_instance::{Kind, Side};
 use sm_keys::is_run;
@@ -123,7 +123,8 @@ pub(crate) fn form_under<'a, 'b>(
     names: usize,
 ) -> Option<Form<'a, 'b>>
     requires { AreNamesAtEnd names (texts_of rest.now) }
-    ensures { option_map form_of result ≡ form_under kind format word.now (texts_of rest.now) }
+    ensures form { option_map form_of result ≡ form_under kind format word.now (texts_of rest.now) }
+    ensures order { IfSome result (IsOrderOf (texts_of rest.now)) }
 {
     match form_behind(kind, word, rest, names) {
         Some(form) => Some(form),
@@ -141,7 +142,8 @@ fn form_behind<'a, 'b>(
     names: usize,
 ) -> Option<Form<'a, 'b>>
     requires { AreNamesAtEnd names (texts_of rest.now) }
-    ensures { option_map form_of result ≡ form_behind kind word.now (texts_of rest.now) }
+    ensures form { option_map form_of result ≡ form_behind kind word.now (texts_of rest.now) }
+    ensures order { IfSome result (IsOrderOf (texts_of rest.now)) }
 {
     if is(word, b"p") {
         return list_form(Side::Proposers, rest, names);
@@ -161,7 +163,8 @@ fn two_sided_form<'a, 'b>(
     names: usize,
 ) -> Option<Form<'a, 'b>>
     requires { AreNamesAtEnd names (texts_of rest.now) }
-    ensures { option_map form_of result ≡ two_sided_form kind word.now (texts_of rest.now) }
+    ensures form { option_map form_of result ≡ two_sided_form kind word.now (texts_of rest.now) }
+    ensures order { IfSome result (IsOrderOf (texts_of rest.now)) }
 {
     if is(word, b"r") {
         reviewer_form(kind, rest, names)
@@ -180,7 +183,8 @@ fn two_sided_form<'a, 'b>(
 #[tactic(auto, unfolding(crate::specs::Forms::reviewer_form))]
 fn reviewer_form<'a, 'b>(kind: Kind, rest: &'b [&'a [u8]], names: usize) -> Option<Form<'a, 'b>>
     requires { AreNamesAtEnd names (texts_of rest.now) }
-    ensures { option_map form_of result ≡ reviewer_form kind (texts_of rest.now) }
+    ensures form { option_map form_of result ≡ reviewer_form kind (texts_of rest.now) }
+    ensures order { IfSome result (IsOrderOf (texts_of rest.now)) }
 {
     match list_form(Side::Reviewers, rest, names) {
         Some(form) => Some(form),
@@ -193,7 +197,8 @@ fn reviewer_form<'a, 'b>(kind: Kind, rest: &'b [&'a [u8]], names: usize) -> Opti
 #[tactic(auto, unfolding(crate::specs::Forms::list_form))]
 fn list_form<'a, 'b>(side: Side, rest: &'b [&'a [u8]], names: usize) -> Option<Form<'a, 'b>>
     requires { AreNamesAtEnd names (texts_of rest.now) }
-    ensures { option_map form_of result ≡ list_form side (texts_of rest.now) }
+    ensures form { option_map form_of result ≡ list_form side (texts_of rest.now) }
+    ensures order { IfSome result (IsOrderOf (texts_of rest.now)) }
 {
     match rest {
         [name, colon, entries @ ..]
@@ -213,7 +218,8 @@ fn list_form<'a, 'b>(side: Side, rest: &'b [&'a [u8]], names: usize) -> Option<F
 #[tactic(auto, unfolding(crate::specs::Forms::capacity_form))]
 fn capacity_form<'a, 'b>(rest: &'b [&'a [u8]], names: usize) -> Option<Form<'a, 'b>>
     requires { AreNamesAtEnd names (texts_of rest.now) }
-    ensures { option_map form_of result ≡ capacity_form (texts_of rest.now) }
+    ensures form { option_map form_of result ≡ capacity_form (texts_of rest.now) }
+    ensures order { IfSome result (IsOrderOf (texts_of rest.now)) }
 {
     match rest {
         [name, opening, number, closing, colon, entries @ ..]
@@ -237,7 +243,8 @@ fn capacity_form<'a, 'b>(rest: &'b [&'a [u8]], names: usize) -> Option<Form<'a, 
 /// Two names and a weight.
 #[tactic(auto, unfolding(crate::specs::Forms::weight_form))]
 fn weight_form<'a, 'b>(rest: &'b [&'a [u8]]) -> Option<Form<'a, 'b>>
-    ensures { option_map form_of result ≡ weight_form (texts_of rest.now) }
+    ensures form { option_map form_of result ≡ weight_form (texts_of rest.now) }
+    ensures order { IfSome result (IsOrderOf (texts_of rest.now)) }
 {
     match rest {
         [proposer, reviewer, weight] if is_run(proposer) && is_run(reviewer) && is_run(weight) => {
@@ -255,7 +262,8 @@ fn weight_form<'a, 'b>(rest: &'b [&'a [u8]]) -> Option<Form<'a, 'b>>
 /// Two names of a pair of which something is asked.
 #[tactic(auto, unfolding(crate::specs::Forms::pair_form))]
 fn pair_form<'a, 'b>(condition: Condition, rest: &'b [&'a [u8]]) -> Option<Form<'a, 'b>>
-    ensures { option_map form_of result ≡ pair_form condition (texts_of rest.now) }
+    ensures form { option_map form_of result ≡ pair_form condition (texts_of rest.now) }
+    ensures order { IfSome result (IsOrderOf (texts_of rest.now)) }
 {
     match rest {
         [proposer, reviewer] if is_run(proposer) && is_run(reviewer) => Some(Form::Pair {
@@ -276,7 +284,8 @@ fn added_form<'a, 'b>(
     names: usize,
 ) -> Option<Form<'a, 'b>>
     requires { AreNamesAtEnd names (texts_of rest.now) }
-    ensures { option_map form_of result ≡ added_form kind word.now (texts_of rest.now) }
+    ensures form { option_map form_of result ≡ added_form kind word.now (texts_of rest.now) }
+    ensures order { IfSome result (IsOrderOf (texts_of rest.now)) }
 {
     if is(word, b"p") {
         return use_form(Side::Proposers, rest);
@@ -299,7 +308,8 @@ fn two_sided_added_form<'a, 'b>(
     names: usize,
 ) -> Option<Form<'a, 'b>>
     requires { AreNamesAtEnd names (texts_of rest.now) }
-    ensures { option_map form_of result ≡ two_sided_added_form kind word.now (texts_of rest.now) }
+    ensures form { option_map form_of result ≡ two_sided_added_form kind word.now (texts_of rest.now) }
+    ensures order { IfSome result (IsOrderOf (texts_of rest.now)) }
 {
     if is(word, b"r") {
         reviewer_use_form(kind, rest)
@@ -316,7 +326,8 @@ fn two_sided_added_form<'a, 'b>(
 #[tactic(auto, unfolding(crate::specs::Forms::master_form))]
 fn master_form<'a, 'b>(rest: &'b [&'a [u8]], names: usize) -> Option<Form<'a, 'b>>
     requires { AreNamesAtEnd names (texts_of rest.now) }
-    ensures { option_map form_of result ≡ master_form (texts_of rest.now) }
+    ensures form { option_map form_of result ≡ master_form (texts_of rest.now) }
+    ensures order { IfSome result (IsOrderOf (texts_of rest.now)) }
 {
     match rest {
         [name, colon, entries @ ..]
@@ -333,7 +344,8 @@ fn master_form<'a, 'b>(rest: &'b [&'a [u8]], names: usize) -> Option<Form<'a, 'b
 /// A name, a colon, and the name of a master list in brackets.
 #[tactic(auto, unfolding(crate::specs::Forms::use_form))]
 fn use_form<'a, 'b>(side: Side, rest: &'b [&'a [u8]]) -> Option<Form<'a, 'b>>
-    ensures { option_map form_of result ≡ use_form side (texts_of rest.now) }
+    ensures form { option_map form_of result ≡ use_form side (texts_of rest.now) }
+    ensures order { IfSome result (IsOrderOf (texts_of rest.now)) }
 {
     match rest {
         [name, colon, opening, master, closing]
@@ -355,7 +367,8 @@ fn use_form<'a, 'b>(side: Side, rest: &'b [&'a [u8]]) -> Option<Form<'a, 'b>>
 /// A name, a number in brackets, a colon, and the name of a master list in brackets.
 #[tactic(auto, unfolding(crate::specs::Forms::capacity_use_form))]
 fn capacity_use_form<'a, 'b>(rest: &'b [&'a [u8]]) -> Option<Form<'a, 'b>>
-    ensures { option_map form_of result ≡ capacity_use_form (texts_of rest.now) }
+    ensures form { option_map form_of result ≡ capacity_use_form (texts_of rest.now) }
+    ensures order { IfSome result (IsOrderOf (texts_of rest.now)) }
 {
     match rest {
         [
@@ -387,7 +400,8 @@ fn capacity_use_form<'a, 'b>(rest: &'b [&'a [u8]]) -> Option<Form<'a, 'b>>
 /// A reviewer with a master list, whose capacity may be written in hospitals alone.
 #[tactic(auto, unfolding(crate::specs::Forms::reviewer_use_form))]
 fn reviewer_use_form<'a, 'b>(kind: Kind, rest: &'b [&'a [u8]]) -> Option<Form<'a, 'b>>
-    ensures { option_map form_of result ≡ reviewer_use_form kind (texts_of rest.now) }
+    ensures form { option_map form_of result ≡ reviewer_use_form kind (texts_of rest.now) }
+    ensures order { IfSome result (IsOrderOf (texts_of rest.now)) }
 {
     match use_form(Side::Reviewers, rest) {
         Some(form) => Some(form),
@@ -400,7 +414,8 @@ fn reviewer_use_form<'a, 'b>(kind: Kind, rest: &'b [&'a [u8]]) -> Option<Form<'a
 #[tactic(auto, unfolding(crate::specs::Forms::order_form))]
 fn order_form<'a, 'b>(rest: &'b [&'a [u8]], names: usize) -> Option<Form<'a, 'b>>
     requires { AreNamesAtEnd names (texts_of rest.now) }
-    ensures { option_map form_of result ≡ order_form (texts_of rest.now) }
+    ensures form { option_map form_of result ≡ order_form (texts_of rest.now) }
+    ensures order { IfSome result (IsOrderOf (texts_of rest.now)) }
 {
     if are_runs(rest, names) {
         Some(Form::Order { proposers: rest })
@@ -412,7 +427,8 @@ fn order_form<'a, 'b>(rest: &'b [&'a [u8]], names: usize) -> Option<Form<'a, 'b>
 /// Two names and two weights.
 #[tactic(auto, unfolding(crate::specs::Forms::second_form))]
 fn second_form<'a, 'b>(rest: &'b [&'a [u8]]) -> Option<Form<'a, 'b>>
-    ensures { option_map form_of result ≡ second_form (texts_of rest.now) }
+    ensures form { option_map form_of result ≡ second_form (texts_of rest.now) }
+    ensures order { IfSome result (IsOrderOf (texts_of rest.now)) }
 {
     match rest {
         [proposer, reviewer, weight, second]

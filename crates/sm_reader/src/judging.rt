@@ -1,26 +1,26 @@
 //! How a line is judged, and what it adds.
 
-ghost use Rattle.std.specs.Prelude.{◌≡◌, ℕ, ◌<◌, ◌≤◌, ◌∷◌, [], true, false, length, map, slice_index, IfOk, IfErr};
+ghost use Rattle.std.specs.Prelude.{◌≡◌, ℕ, ◌+◌, ◌<◌, ◌≤◌, ◌∷◌, [], true, false, length, slice_index, nat_le, IfOk, IfErr};
 ghost use Rattle.std.specs.List.{list_any, list_all};
 ghost use Rattle.std.specs.Option.{option_map};
 ghost use Rattle.std.specs.Str.{bytes_eq};
-ghost use Rattle.indexmap.specs.IndexSet.{keys};
-ghost use Rattle.sm_text.specs.Limits.{most_agents, most_entries};
+ghost use Rattle.std.specs.Int.RustNames.{unsigned_abs};
+ghost use Rattle.sm_text.specs.Limits.{most_agents, most_entries, most_weight};
 ghost use Rattle.sm_text.specs.Name.{is_name as is_a_name};
 ghost use Rattle.sm_keys.specs.Tokens.{is_bad, AreNamesAtEnd};
 ghost use Rattle.sm_reader.specs.Judging.{verdict_on, fault_of, second_in};
 ghost use Rattle.sm_keys.specs.Tables.{has_repeated};
 ghost use Rattle.sm_text.specs.Slices.{texts_of};
-ghost use Rattle.sm_reader.specs.Draft.{said_of, form_of, entries_in, listed_side, table_on, declared_on, IsDraft, AddsForm, JudgesTokens, IsRefusedBy, IsLineFault, run_fault, name_fault, limit_fault, AreRunsRight, DeclaresOn, ListsOn, PutsOn, RefusesFor, PairsOf, AddsAgent, ArePairsBelow, pairs_of, key_of, weights_in, weight_fault, PutsWeight, PutsPair, Binds, runs_form};
+ghost use Rattle.sm_reader.specs.Draft.{said_of, form_of, entries_in, listed_side, table_on, declared_on, IsDraft, AddsForm, AddsBy, IsJudged, IsRefusedBy, IsLineFault, IsLongFault, IsWeighed, run_fault, name_fault, limit_fault, AreRunsRight, DeclaresOn, ListsOn, PutsOn, RefusesFor, AddsAgent, weights_in, weight_fault, PutsWeight, PutsPair, Binds, runs_form};
 
-use crate::draft::{Declared, Draft, Pair, Weight, make_ready};
+use crate::draft::{Declared, Draft, Pair, Weights, make_ready};
 use crate::faults::TextFault;
 use crate::forms::{Condition, Form, form_under, is_end};
 use crate::header::Header;
 use crate::masters::{MasterRuns, add_master, master_entries};
-use crate::ordering::add_order;
+use crate::ordering::check_order;
 use sm_instance::{Kind, Side};
-use sm_keys::Found;
+use sm_keys::{Found, TextKey, has_repeated};
 use sm_text::{
     MOST_AGENTS, MOST_CAPACITY, MOST_ENTRIES, MOST_WEIGHT, RefusalKind, is_name, number, signed,
 };
@@ -60,7 +60,18 @@ pub(crate) enum Step {
     Stops,
 }
 
-/// Judges a line by its tokens and what they were found to be, and adds what it says.
+/// What comes of a line that is judged by its tokens, and isn't refused.
+#[derive(Clone, Copy)]
+pub(crate) enum Judged {
+    /// What it says is added.
+    Added,
+    /// It orders proposers, whose names are its tokens behind the first. These are still to be kept.
+    Orders,
+    /// It ends the instance.
+    Ends,
+}
+
+/// Judges a line by its tokens and what they were found to be, and adds what it says, but for an order.
 pub(crate) fn judge<'a>(
     alloc: Global,
     header: Header,
@@ -68,35 +79,33 @@ pub(crate) fn judge<'a>(
     line: u32,
     tokens: &[&'a [u8]],
     found: Found,
-) -> Result<Step, TextFault>
+) -> Result<Judged, TextFault>
     requires draft { IsDraft header.kind line draft.old }
     requires bad { found.bad ≡ list_any is_bad (texts_of tokens.now) }
     requires names { AreNamesAtEnd found.names (texts_of tokens.now) }
-    ensures judged { IfOk result (λ step. JudgesTokens header.kind header.format line
-        (texts_of tokens.now) draft.old draft.new step) }
+    ensures judged { IfOk result (λ judged. IsJudged header.kind header.format line
+        (texts_of tokens.now) draft.old draft.new judged) }
     ensures refused { IfErr result (λ f. IsRefusedBy
         (verdict_on header.kind header.format (said_of header.kind draft.old) line
         (texts_of tokens.now)) line f) }
 {
     let [word, rest @ ..] = tokens else {
-        return Ok(Step::Goes);
+        return Ok(Judged::Added);
     };
     if found.bad {
         return Err(TextFault::Refused(RefusalKind::BadByte, line));
     }
     if is_end(tokens) {
-        return Ok(Step::Stops);
+        return Ok(Judged::Ends);
     }
     match form_under(header.kind, header.format, word, rest, found.names) {
         None => Err(TextFault::Refused(RefusalKind::BadLine, line)),
-        Some(form) => {
-            add(alloc, header.kind, draft, line, form, found.names)?;
-            Ok(Step::Goes)
-        }
+        Some(form) => add(alloc, header.kind, draft, line, form, found.names),
     }
 }
 
-/// Adds what a line of this form says, unless it has a fault. The last `names` runs on its list are names, and no more.
+/// Adds what a line of this form says, but for an order, unless it has a fault. The last `names` runs on its list are names, and no
+/// more.
 fn add<'a>(
     alloc: Global,
     kind: Kind,
@@ -104,10 +113,10 @@ fn add<'a>(
     line: u32,
     form: Form<'a, '_>,
     names: usize,
-) -> Result<(), TextFault>
+) -> Result<Judged, TextFault>
     requires draft { IsDraft kind line draft.old }
     requires names { AreNamesAtEnd names (entries_in (form_of form)) }
-    ensures added { IfOk result (λ _. AddsForm kind line (form_of form.entry) draft.old draft.new) }
+    ensures added { IfOk result (λ judged. AddsBy kind line form.entry draft.old draft.new judged) }
     ensures fault { IfErr result (λ f. IsLineFault
         (fault_of (said_of kind draft.old) (form_of form.entry)) line f) }
 {
@@ -124,7 +133,8 @@ fn add<'a>(
                 capacity,
                 entries,
             };
-            add_runs(alloc, kind, draft, line, agent, names)
+            add_runs(alloc, kind, draft, line, agent, names)?;
+            Ok(Judged::Added)
         }
         Form::Use {
             side,
@@ -139,13 +149,18 @@ fn add<'a>(
                 capacity,
                 entries: &entries,
             };
-            add_runs(alloc, kind, draft, line, agent, entries.len())
+            add_runs(alloc, kind, draft, line, agent, entries.len())?;
+            Ok(Judged::Added)
         }
         Form::Master { name, entries } => {
             let master = MasterRuns { name, entries };
-            add_master(alloc, kind, draft, line, master, names)
+            add_master(alloc, draft, line, master, names)?;
+            Ok(Judged::Added)
         }
-        Form::Order { proposers } => add_order(alloc, draft, line, proposers, names),
+        Form::Order { proposers } => {
+            check_order(alloc, draft, line, proposers, names)?;
+            Ok(Judged::Orders)
+        }
         Form::Weight {
             proposer,
             reviewer,
@@ -153,13 +168,17 @@ fn add<'a>(
             second,
         } => {
             let weights = WeightRuns { weight, second };
-            add_weight(draft, line, proposer, reviewer, weights)
+            add_weight(draft, line, proposer, reviewer, weights)?;
+            Ok(Judged::Added)
         }
         Form::Pair {
             condition,
             proposer,
             reviewer,
-        } => add_condition(draft, line, condition, proposer, reviewer),
+        } => {
+            add_condition(draft, line, condition, proposer, reviewer)?;
+            Ok(Judged::Added)
+        }
     }
 }
 
@@ -254,6 +273,9 @@ fn add_agent<'a>(
         entries,
     } = agent;
     declare(draft, side, name, line)?;
+    if entries.len() > MOST_ENTRIES - draft.entries {
+        return Err(refusal_of_long(alloc, draft, side, entries, line));
+    }
     let entries = listed(alloc, draft, listed_side(kind, side), entries, line)?;
     let agent = Declared {
         name,
@@ -262,6 +284,47 @@ fn add_agent<'a>(
         entries,
     };
     put_agent(draft, side, agent)
+}
+
+/// Why an agent is refused whose list is longer than what is left to entries. Nothing of the list is kept.
+fn refusal_of_long(
+    alloc: Global,
+    draft: &Draft<'_>,
+    side: Side,
+    entries: &[&[u8]],
+    line: u32,
+) -> TextFault
+    requires { most_entries < draft.now.entries + length entries.now }
+    ensures { IsLongFault (length (declared_on side draft.now)) draft.now.entries
+        (texts_of entries.now) line result }
+{
+    match has_repeated(alloc, draft.text, entries) {
+        Ok(true) => TextFault::Refused(RefusalKind::RepeatedEntry, line),
+        Ok(false) => beyond(draft, side, line),
+        Err(AllocError) => TextFault::OutOfMemory,
+    }
+}
+
+/// Why an agent is refused that has more entries than are left.
+pub(crate) fn beyond(draft: &Draft<'_>, side: Side, line: u32) -> TextFault
+    ensures { (more : ℕ) → most_entries < draft.now.entries + more → IsLineFault
+        (limit_fault (length (declared_on side draft.now)) draft.now.entries more) line result }
+{
+    if has_all_agents(draft, side) {
+        TextFault::Refused(RefusalKind::TooManyAgents, line)
+    } else {
+        TextFault::Refused(RefusalKind::TooManyEntries, line)
+    }
+}
+
+/// Has a side as many agents as it may have?
+fn has_all_agents(draft: &Draft<'_>, side: Side) -> bool
+    ensures { result ≡ nat_le most_agents (length (declared_on side draft.now)) }
+{
+    match side {
+        Side::Proposers => draft.proposers.len() >= MOST_AGENTS,
+        Side::Reviewers => draft.reviewers.len() >= MOST_AGENTS,
+    }
 }
 
 /// The side that the agents of a side list.
@@ -322,30 +385,22 @@ pub(crate) fn listed<'a>(
     }
 }
 
-/// Puts an agent behind the others of its side, within the limits.
+/// Puts an agent behind the others of its side, unless they are too many. There is room for its entries.
 pub(crate) fn put_agent<'a>(
     draft: &mut Draft<'a>,
     side: Side,
     agent: Declared<'a>,
 ) -> Result<(), TextFault>
-    requires { draft.old.entries ≤ most_entries }
+    requires { draft.old.entries + length agent.entries.items ≤ most_entries }
     ensures put { IfOk result (λ _. PutsOn side draft.old draft.new agent.entry) }
     ensures fault { IfErr result (λ f. IsLineFault
         (limit_fault (length (declared_on side draft.old)) draft.old.entries
         (length agent.entry.entries.items)) agent.entry.line f) }
 {
-    let count = match side {
-        Side::Proposers => draft.proposers.len(),
-        Side::Reviewers => draft.reviewers.len(),
-    };
-    if count >= MOST_AGENTS {
+    if has_all_agents(draft, side) {
         return Err(TextFault::Refused(RefusalKind::TooManyAgents, agent.line));
     }
-    let more = agent.entries.len();
-    if more > MOST_ENTRIES - draft.entries {
-        return Err(TextFault::Refused(RefusalKind::TooManyEntries, agent.line));
-    }
-    draft.entries += more;
+    draft.entries += agent.entries.len();
     match side {
         Side::Proposers => draft.proposers.push(agent)?,
         Side::Reviewers => draft.reviewers.push(agent)?,
@@ -353,28 +408,18 @@ pub(crate) fn put_agent<'a>(
     Ok(())
 }
 
-/// The pair of two names.
-fn pair_of<'a>(
-    draft: &mut Draft<'a>,
-    line: u32,
-    proposer: &'a [u8],
-    reviewer: &'a [u8],
-) -> Result<Pair, TextFault>
-    ensures pair { IfOk result (λ pair. PairsOf draft.old draft.new proposer.now reviewer.now line
-        pair) }
+/// Are both runs of a pair names?
+fn check_pair(proposer: &[u8], reviewer: &[u8], line: u32) -> Result<(), TextFault>
+    ensures names { IfOk result (λ _. list_all is_a_name (proposer.now ∷ reviewer.now ∷ [])
+        ≡ true) }
     ensures refused { IfErr result (λ f. RefusesFor RefusalKind.BadName line
         (list_all is_a_name (proposer.now ∷ reviewer.now ∷ []) ≡ false) f) }
 {
-    if !is_name(proposer) || !is_name(reviewer) {
-        return Err(TextFault::Refused(RefusalKind::BadName, line));
+    if is_name(proposer) && is_name(reviewer) {
+        Ok(())
+    } else {
+        Err(TextFault::Refused(RefusalKind::BadName, line))
     }
-    let proposer = draft.proposer_names.intern(proposer)?;
-    let reviewer = draft.reviewer_names.intern(reviewer)?;
-    Ok(Pair {
-        proposer,
-        reviewer,
-        line,
-    })
 }
 
 /// Adds the weights of a pair that has none yet.
@@ -385,32 +430,44 @@ fn add_weight<'a>(
     reviewer: &'a [u8],
     weights: WeightRuns<'_>,
 ) -> Result<(), TextFault>
-    requires in_range { ArePairsBelow (length draft.old.proposer_names.texts)
-        (length draft.old.reviewer_names.texts) (pairs_of draft.old.weights.items) }
-    requires weighed { keys draft.old.weighed ≡ map key_of draft.old.weights.items }
     ensures put { IfOk result (λ _. PutsWeight draft.old draft.new proposer.now reviewer.now
         weights.entry.weight.now (option_map (λ x. x.now) weights.entry.second) line) }
     ensures fault { IfErr result (λ f. IsLineFault
         (weight_fault (weights_in draft.old) proposer.now reviewer.now weights.entry.weight.now
         (option_map (λ x. x.now) weights.entry.second)) line f) }
 {
-    let pair = pair_of(draft, line, proposer, reviewer)?;
-    let Some(weight) = signed(weights.weight, MOST_WEIGHT) else {
+    check_pair(proposer, reviewer, line)?;
+    let Some(weights) = weights_on(weights, line) else {
         return Err(TextFault::Refused(RefusalKind::BadNumber, line));
     };
-    let Some(second) = second_in(weights.second) else {
-        return Err(TextFault::Refused(RefusalKind::BadNumber, line));
-    };
-    make_ready(draft);
-    if !draft.weighed.insert((pair.proposer, pair.reviewer))? {
+    make_ready(&mut draft.weights, draft.text);
+    let pair = (TextKey { text: proposer }, TextKey { text: reviewer });
+    if draft.weights.insert(pair, weights)?.is_some() {
         return Err(TextFault::Refused(RefusalKind::RepeatedWeight, line));
     }
-    draft.weights.push(Weight {
-        pair,
-        weight,
-        second,
-    })?;
     Ok(())
+}
+
+/// The weights that a line says; `None` where one is no number within the limit.
+fn weights_on(runs: WeightRuns<'_>, line: u32) -> Option<Weights>
+    ensures { IsWeighed runs.entry.weight.now (option_map (λ x. x.now) runs.entry.second) line
+        result }
+{
+    let weight = signed(runs.weight, MOST_WEIGHT)?;
+    let second = second_in(runs.second)?;
+    Some(Weights {
+        line,
+        weight: in_four_bytes(weight),
+        second: in_four_bytes(second),
+    })
+}
+
+/// A weight within its limit, in four bytes.
+fn in_four_bytes(weight: i64) -> i32
+    requires { unsigned_abs weight ≤ most_weight }
+    ensures { result ≡ weight }
+{
+    weight as i32
 }
 
 /// The second weight that a line says, which is 0 where it says none; `None` where it is no number within the limit.
@@ -436,14 +493,23 @@ fn add_condition<'a>(
     ensures refused { IfErr result (λ f. RefusesFor RefusalKind.BadName line
         (list_all is_a_name (proposer.now ∷ reviewer.now ∷ []) ≡ false) f) }
 {
-    let pair = pair_of(draft, line, proposer, reviewer)?;
+    check_pair(proposer, reviewer, line)?;
+    let pair = Pair {
+        proposer,
+        reviewer,
+        line,
+    };
     put_pair(draft, condition, pair)?;
     Ok(())
 }
 
 /// Puts a pair behind the others of which the same is asked.
-fn put_pair(draft: &mut Draft<'_>, condition: Condition, pair: Pair) -> Result<(), AllocError>
-    ensures { IfOk result (λ _. PutsPair condition draft.old draft.new pair) }
+fn put_pair<'a>(
+    draft: &mut Draft<'a>,
+    condition: Condition,
+    pair: Pair<'a>,
+) -> Result<(), AllocError>
+    ensures { IfOk result (λ _. PutsPair condition draft.old draft.new pair.entry) }
 {
     match condition {
         Condition::Force => draft.forced.push(pair)?,

@@ -11,9 +11,10 @@ ghost use Rattle.sm_reader.specs.Listed.{side_by, DeclaresSide, IsAgentLine, Lis
 use crate::draft::{Declared, Draft};
 use crate::faults::TextFault;
 use crate::forms::is;
-use crate::judging::{declare, listed_side, put_agent};
+use crate::judging::{beyond, declare, listed_side, put_agent};
 use sm_instance::{Kind, Side};
 use sm_keys::{Head, head_of};
+use sm_text::MOST_ENTRIES;
 use std::alloc::{AllocError, Global};
 
 /// The line of an agent, up to its list.
@@ -118,5 +119,8 @@ fn put_declared<'a>(draft: &mut Draft<'a>, side: Side, agent: Declared<'a>) -> R
     ensures fault { IfErr result (λ f. IsPutFault side draft.old agent.entry f) }
 {
     declare(draft, side, agent.name, agent.line)?;
+    if agent.entries.len() > MOST_ENTRIES - draft.entries {
+        return Err(beyond(draft, side, agent.line));
+    }
     put_agent(draft, side, agent)
 }

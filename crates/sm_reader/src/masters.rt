@@ -1,6 +1,6 @@
 //! Master lists.
 
-ghost use Rattle.std.specs.Prelude.{◌≡◌, ◌+◌, ◌<◌, ◌≤◌, ◌^◌, true, None, length, map, IfOk, IfErr};
+ghost use Rattle.std.specs.Prelude.{◌≡◌, ◌<◌, ◌≤◌, ◌+◌, true, None, length, map, All, IfOk, IfErr};
 ghost use Rattle.std.specs.List.{list_any};
 ghost use Rattle.std.specs.Str.{bytes_eq};
 ghost use Rattle.sm_text.specs.Limits.{most_entries};
@@ -8,15 +8,17 @@ ghost use Rattle.sm_text.specs.Slices.{texts_of};
 ghost use Rattle.sm_agents.specs.Named.{entries_named};
 ghost use Rattle.sm_reader.specs.Forms.{shares};
 ghost use Rattle.sm_reader.specs.Judging.{fault_of};
+ghost use Rattle.sm_keys.specs.Tables.{has_repeated};
 ghost use Rattle.sm_keys.specs.Tokens.{AreNamesAtEnd};
-ghost use Rattle.sm_reader.specs.Draft.{said_of, IsDraft, AddsForm, IsLineFault, RefusesFor, master_in, AreMastersNamed, IsMaster, DeclaresMaster, PutsMaster};
+ghost use Rattle.sm_reader.specs.Draft.{said_of, IsDraft, AddsForm, IsLineFault, RefusesFor, HasNames, master_in, masters_declared, master_fault, IsMaster, PutsMaster};
 
-use crate::draft::{Draft, Master};
+use crate::draft::{Draft, make_ready};
 use crate::faults::TextFault;
-use crate::judging::{checked_capacity, listed, listed_side};
-use sm_instance::{Kind, Side};
+use crate::judging::checked_capacity;
+use sm_instance::Kind;
+use sm_keys::{TextKey, has_repeated};
 use sm_text::{MOST_ENTRIES, RefusalKind};
-use std::alloc::Global;
+use std::alloc::{AllocError, Global};
 
 /// The runs of the line of a master list: of its name and on it.
 #[derive(Clone, Copy)]
@@ -29,86 +31,86 @@ pub(crate) struct MasterRuns<'a, 'b> {
 pub(crate) fn master_entries<'a>(
     alloc: Global,
     draft: &Draft<'a>,
-    master: &[u8],
+    master: &'a [u8],
     line: u32,
 ) -> Result<Vec<&'a [u8]>, TextFault>
-    requires { AreMastersNamed draft.now.master_names.declared draft.now.masters.items }
+    requires { All HasNames draft.now.masters.entries }
     ensures found { IfOk result (λ entries. IsMaster draft.now master.now
         (texts_of entries.items)) }
     ensures refused { IfErr result (λ f. RefusesFor RefusalKind.BadName line
-        (entries_named (map master_in draft.now.masters.items) master.now ≡ None) f) }
+        (entries_named (map master_in draft.now.masters.entries) master.now ≡ None) f) }
 {
-    let Some(number) = draft.master_names.find(master) else {
-        return Err(TextFault::Refused(RefusalKind::BadName, line));
-    };
-    let entries = &draft.masters[number as usize].entries;
-    let copy = Vec::from_slice(alloc, entries)?;
-    Ok(copy)
+    match draft.masters.get(&TextKey { text: master }) {
+        Some(entries) => Ok(Vec::from_slice(alloc, entries)?),
+        None => Err(TextFault::Refused(RefusalKind::BadName, line)),
+    }
 }
 
 /// Adds a master list. The last `names` runs on it are names, and no more.
 pub(crate) fn add_master<'a>(
     alloc: Global,
-    kind: Kind,
     draft: &mut Draft<'a>,
     line: u32,
     master: MasterRuns<'a, '_>,
     names: usize,
 ) -> Result<(), TextFault>
-    requires draft { IsDraft kind line draft.old }
+    requires fit { draft.old.entries ≤ most_entries }
     requires names { AreNamesAtEnd names (texts_of master.entries.now) }
-    ensures added { IfOk result (λ _. AddsForm kind line
-        (shares master.entry.name.now (texts_of master.entry.entries.now)) draft.old draft.new) }
-    ensures fault { IfErr result (λ f. IsLineFault (fault_of (said_of kind draft.old)
+    ensures added { IfOk result (λ _. (kind : Kind) → IsDraft kind line draft.old
+        → AddsForm kind line (shares master.entry.name.now (texts_of master.entry.entries.now))
+        draft.old draft.new) }
+    ensures fault { IfErr result (λ f. (kind : Kind) → IsDraft kind line draft.old
+        → IsLineFault (fault_of (said_of kind draft.old)
         (shares master.entry.name.now (texts_of master.entry.entries.now))) line f) }
 {
     let MasterRuns { name, entries } = master;
     checked_capacity(name, None, entries, names, line)?;
-    declare_master(draft, name, line)?;
-    listed(
-        alloc,
-        draft,
-        listed_side(kind, Side::Proposers),
-        entries,
-        line,
-    )?;
-    put_master(alloc, draft, name, entries, line)
+    check_master(alloc, draft, line, master)?;
+    put_master(alloc, draft, master)?;
+    Ok(())
 }
 
-/// Declares a master list of a name that no other has.
-fn declare_master<'a>(draft: &mut Draft<'a>, name: &'a [u8], line: u32) -> Result<(), TextFault>
-    requires few { length draft.old.master_names.declared < 2 ^ 32 }
-    ensures declared { IfOk result (λ _. DeclaresMaster draft.old draft.new name.now) }
-    ensures refused { IfErr result (λ f. RefusesFor RefusalKind.Redeclared line
-        (list_any (bytes_eq name.now) draft.old.master_names.declared ≡ true) f) }
+/// Looks for a fault of a master list's names, and of how many there are.
+fn check_master(
+    alloc: Global,
+    draft: &Draft<'_>,
+    line: u32,
+    master: MasterRuns<'_, '_>,
+) -> Result<(), TextFault>
+    requires { draft.now.entries ≤ most_entries }
+    ensures faultless { IfOk result (λ _. master_fault (masters_declared draft.now)
+        master.entry.name.now (texts_of master.entry.entries.now) draft.now.entries ≡ None) }
+    ensures fault { IfErr result (λ f. IsLineFault (master_fault (masters_declared draft.now)
+        master.entry.name.now (texts_of master.entry.entries.now) draft.now.entries) line f) }
 {
-    if draft.master_names.declare(name)? {
-        Ok(())
-    } else {
-        Err(TextFault::Refused(RefusalKind::Redeclared, line))
+    let MasterRuns { name, entries } = master;
+    if draft.masters.contains_key(&TextKey { text: name }) {
+        return Err(TextFault::Refused(RefusalKind::Redeclared, line));
     }
+    if has_repeated(alloc, draft.text, entries)? {
+        return Err(TextFault::Refused(RefusalKind::RepeatedEntry, line));
+    }
+    if entries.len() > MOST_ENTRIES - draft.entries {
+        return Err(TextFault::Refused(RefusalKind::TooManyEntries, line));
+    }
+    Ok(())
 }
 
-/// Puts a master list behind the others, within the limit of entries.
+/// Puts a master list that has no fault behind the others.
 fn put_master<'a>(
     alloc: Global,
     draft: &mut Draft<'a>,
-    name: &'a [u8],
-    entries: &[&'a [u8]],
-    line: u32,
-) -> Result<(), TextFault>
-    requires { draft.old.entries ≤ most_entries }
-    ensures put { IfOk result (λ _. PutsMaster draft.old draft.new name.now
-        (texts_of entries.now)) }
-    ensures fault { IfErr result (λ f. RefusesFor RefusalKind.TooManyEntries line
-        (most_entries < draft.old.entries + length entries.now) f) }
+    master: MasterRuns<'a, '_>,
+) -> Result<(), AllocError>
+    requires { master_fault (masters_declared draft.old) master.name.now
+        (texts_of master.entries.now) draft.old.entries ≡ None }
+    ensures { IfOk result (λ _. PutsMaster draft.old draft.new master.entry.name.now
+        (texts_of master.entry.entries.now)) }
 {
-    let more = entries.len();
-    if more > MOST_ENTRIES - draft.entries {
-        return Err(TextFault::Refused(RefusalKind::TooManyEntries, line));
-    }
-    draft.entries += more;
-    let entries = Vec::from_slice(alloc, entries)?;
-    draft.masters.push(Master { name, entries })?;
+    let MasterRuns { name, entries } = master;
+    make_ready(&mut draft.masters, draft.text);
+    let names = Vec::from_slice(alloc, entries)?;
+    draft.masters.insert(TextKey { text: name }, names)?;
+    draft.entries += entries.len();
     Ok(())
 }

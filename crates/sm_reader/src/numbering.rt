@@ -1,19 +1,21 @@
 //! Numbers for names, once all agents are declared.
 
-ghost use Rattle.std.specs.Prelude.{◌≡◌, ◌<◌, ◌^◌, ◌||◌, ◌==◌, ◌++◌, ◌∷◌, [], if◌then◌else◌, ℕ, true, length, map, slice_index_or, false, IfOk};
+ghost use Rattle.std.specs.Prelude.{◌≡◌, ◌<◌, ◌^◌, ◌||◌, ◌==◌, ◌++◌, ◌∷◌, [], if◌then◌else◌, ℕ, true, length, map, drop, slice_index_or, false, IfOk};
 ghost use Rattle.std.specs.List.{list_any};
 ghost use Rattle.std.specs.Option.{option_map};
 ghost use Rattle.sm_agents.specs.Named.{names_first};
 ghost use Rattle.sm_agents.specs.Vectors.{agent_of, agents_of};
-ghost use Rattle.sm_reader.specs.InstanceText.{least, unknown_lines, lines_with_unknown, pairs_with_unknown, order_with_unknown, numbered, full_order};
+ghost use Rattle.sm_reader.specs.InstanceText.{least, unknown_lines, lines_with_unknown, pairs_with_unknown, order_with_unknown, numbered};
 ghost use Rattle.sm_keys.specs.Tables.{is_unknown, number_in, text_at, AreBelow, AreInOrder};
-ghost use Rattle.sm_reader.specs.Draft.{said_of, listed_table, agent_in, pair_in, given_in, order_of, IsOrderBelow, AreAgentsBelow, IsPairBelow, ArePairsBelow, pairs_of};
-ghost use Rattle.sm_reader.specs.Numbering.{line_if, pair_among, weight_among, IsReady, IsTwoSided, NumbersPersons, NumbersSides, NumbersSaid, NumbersBoth, ArePartsOf};
+ghost use Rattle.sm_text.specs.Slices.{texts_of};
+ghost use Rattle.sm_reader.specs.Draft.{said_of, listed_table, agent_in, pair_in, given_in, order_of, AreAgentsBelow};
+ghost use Rattle.sm_reader.specs.Numbering.{line_if, pair_among, weight_among, weighed_pair, second_of, agents_with_unknown, IsReady, IsTwoSided, NumbersPersons, NumbersSides, NumbersSaid, NumbersBoth, ArePartsOf};
 
-use crate::draft::{Declared, Draft, OfPair, Order, Pair, Weight};
+use crate::draft::{Declared, Draft, Order, Pair, Weighed};
 use sm_instance::{Agent, Kind, Parts};
 use sm_keys::Names;
 use sm_lists::earlier;
+use sm_order::full_order;
 use std::alloc::{AllocError, Global};
 
 /// The agents of both sides by number, and the order of the proposers.
@@ -33,35 +35,37 @@ struct SaidNumbered {
     forbidden: Vec<(u32, u32)>,
 }
 
-/// The first line that names an agent which isn't declared. No line does where each name that stands in the text is
-/// declared, and nothing is looked for then.
+/// The first line that names an agent which isn't declared.
 pub(crate) fn first_unknown(kind: Kind, draft: &Draft<'_>) -> Option<u32>
-    requires { IsReady kind draft.now }
-    ensures { result ≡ least (unknown_lines kind (said_of kind draft.now)) }
-{
-    if draft.proposer_names.are_declared() && draft.reviewer_names.are_declared() {
-        return None;
-    }
-    first_in_all(kind, draft)
-}
-
-/// The first such line, looked for in all lists, weights and conditions and in the order.
-fn first_in_all(kind: Kind, draft: &Draft<'_>) -> Option<u32>
     requires { IsReady kind draft.now }
     ensures { result ≡ least (unknown_lines kind (said_of kind draft.now)) }
 {
     let proposers = &draft.proposer_names;
     let reviewers = &draft.reviewer_names;
-    let in_lists = first_in_proposers(kind, draft);
-    let in_others = first_in_lists(proposers, &draft.reviewers);
-    let in_weights = first_in_pairs(proposers, reviewers, &draft.weights);
+    let in_agents = first_in_agents(kind, draft);
+    let in_weights = first_in_weights(proposers, reviewers, &draft.weights);
     let in_forced = first_in_pairs(proposers, reviewers, &draft.forced);
     let in_forbidden = first_in_pairs(proposers, reviewers, &draft.forbidden);
-    let of_agents = earlier(in_lists, in_others);
-    let of_weights = earlier(of_agents, in_weights);
+    let of_weights = earlier(in_agents, in_weights);
     let of_forced = earlier(of_weights, in_forced);
     let of_pairs = earlier(of_forced, in_forbidden);
     earlier(of_pairs, first_in_order(proposers, &draft.order))
+}
+
+/// The first line of an agent that lists a name which isn't declared. No line does where each name that stands on lists is declared, and
+/// nothing is looked for then.
+fn first_in_agents(kind: Kind, draft: &Draft<'_>) -> Option<u32>
+    requires { IsReady kind draft.now }
+    ensures { result ≡ least (agents_with_unknown kind draft.now) }
+{
+    if draft.proposer_names.are_declared() && draft.reviewer_names.are_declared() {
+        return None;
+    }
+    let in_proposers = first_in_proposers(kind, draft);
+    earlier(
+        in_proposers,
+        first_in_lists(&draft.proposer_names, &draft.reviewers),
+    )
 }
 
 /// The first line whose proposer lists a name that isn't declared.
@@ -114,48 +118,81 @@ fn has_unknown(names: &Names<'_>, indexes: &[u32]) -> bool
     false
 }
 
-/// The first line that says something of a pair of which one isn't declared.
-fn first_in_pairs<X: OfPair>(
+/// The first line that gives weights to a pair of which one isn't declared.
+fn first_in_weights(
     proposers: &Names<'_>,
     reviewers: &Names<'_>,
-    items: &[X],
+    weights: &Weighed<'_>,
 ) -> Option<u32>
-    requires { ArePairsBelow (length proposers.now.texts) (length reviewers.now.texts)
-        (map X.pair_of items.now) }
     ensures { result ≡ least (pairs_with_unknown proposers.now.declared reviewers.now.declared
-        (map (pair_in proposers.now.texts reviewers.now.texts) (map X.pair_of items.now))) }
+        (map weighed_pair weights.now.entries)) }
 {
     let mut first = None;
-    'items: for item in items {
-        let pair = item.pair();
+    'weights: for (names, given) in weights.iter() {
+        let (proposer, reviewer) = (names.0.text, names.1.text);
         first = earlier(
             first,
-            line_if(pair.line, is_unknown(proposers, reviewers, pair)),
+            line_if(
+                given.line,
+                is_unknown(proposers, reviewers, proposer, reviewer),
+            ),
+        );
+    }
+    first
+}
+
+/// The first line that says something of a pair of which one isn't declared.
+fn first_in_pairs(proposers: &Names<'_>, reviewers: &Names<'_>, pairs: &[Pair<'_>]) -> Option<u32>
+    ensures { result ≡ least (pairs_with_unknown proposers.now.declared reviewers.now.declared
+        (map pair_in pairs.now)) }
+{
+    let mut first = None;
+    'pairs: for pair in pairs {
+        first = earlier(
+            first,
+            line_if(
+                pair.line,
+                is_unknown(proposers, reviewers, pair.proposer, pair.reviewer),
+            ),
         );
     }
     first
 }
 
 /// The line of an order that names a proposer who isn't declared.
-fn first_in_order(proposers: &Names<'_>, order: &Option<Order>) -> Option<u32>
-    requires { IsOrderBelow (length proposers.now.texts) order.now }
+fn first_in_order(proposers: &Names<'_>, order: &Option<Order<'_>>) -> Option<u32>
     ensures { result ≡ least (order_with_unknown proposers.now.declared
-        (option_map (order_of proposers.now.texts) order.now)) }
+        (option_map order_of order.now)) }
 {
     match order {
-        Some(order) => line_if(order.line, has_unknown(proposers, &order.names)),
+        Some(order) => line_if(order.line, are_unknown(proposers, &order.tokens)),
         None => None,
     }
 }
 
-/// Is one of a pair not declared?
-fn is_unknown(proposers: &Names<'_>, reviewers: &Names<'_>, pair: Pair) -> bool
-    requires { IsPairBelow (length proposers.now.texts) (length reviewers.now.texts) pair }
-    ensures { result ≡ (is_unknown proposers.now.declared (text_at proposers.now.texts
-        pair.proposer)
-        || is_unknown reviewers.now.declared (text_at reviewers.now.texts pair.reviewer)) }
+/// Is one of the names behind the first token not declared?
+fn are_unknown(names: &Names<'_>, tokens: &[&[u8]]) -> bool
+    ensures { result ≡ list_any (is_unknown names.now.declared) (drop 1 (texts_of tokens.now)) }
 {
-    !proposers.is_declared(pair.proposer) || !reviewers.is_declared(pair.reviewer)
+    'names: for at in 1..tokens.len() {
+        if !names.knows(tokens[at]) {
+            return true;
+        }
+    }
+    false
+}
+
+/// Is one of a pair not declared?
+fn is_unknown(
+    proposers: &Names<'_>,
+    reviewers: &Names<'_>,
+    proposer: &[u8],
+    reviewer: &[u8],
+) -> bool
+    ensures { result ≡ (is_unknown proposers.now.declared proposer.now
+        || is_unknown reviewers.now.declared reviewer.now) }
+{
+    !proposers.knows(proposer) || !reviewers.knows(reviewer)
 }
 
 /// The persons of a draft by number. Nothing else of the draft is kept.
@@ -168,15 +205,13 @@ pub(crate) fn numbered_persons(alloc: Global, draft: Draft<'_>) -> Result<Vec<Ag
         reviewer_names,
         proposers,
         reviewers,
-        weighed,
-        master_names,
+        weights,
         masters,
         ..
     } = draft;
     drop(reviewer_names);
     drop(reviewers);
-    drop(weighed);
-    drop(master_names);
+    drop(weights);
     drop(masters);
     let persons = number_agents(alloc, &proposer_names, proposers);
     drop(proposer_names);
@@ -199,17 +234,13 @@ pub(crate) fn numbered_sides(
         proposers,
         reviewers,
         weights,
-        weighed,
         forced,
         forbidden,
-        master_names,
         masters,
         order,
         ..
     } = draft;
-    drop(weighed);
     drop(masters);
-    drop(master_names);
     let said = number_said(
         alloc,
         &proposer_names,
@@ -267,25 +298,19 @@ fn number_said(
     alloc: Global,
     proposers: &Names<'_>,
     reviewers: &Names<'_>,
-    weights: Vec<Weight>,
-    forced: Vec<Pair>,
-    forbidden: Vec<Pair>,
+    weights: Weighed<'_>,
+    forced: Vec<Pair<'_>>,
+    forbidden: Vec<Pair<'_>>,
 ) -> Result<SaidNumbered, AllocError>
     requires few_proposers { length proposers.now.declared < 2 ^ 32 }
     requires few_reviewers { length reviewers.now.declared < 2 ^ 32 }
-    requires weights_in { ArePairsBelow (length proposers.now.texts) (length reviewers.now.texts)
-        (pairs_of weights.items) }
-    requires forced_in { ArePairsBelow (length proposers.now.texts) (length reviewers.now.texts)
-        forced.items }
-    requires forbidden_in { ArePairsBelow (length proposers.now.texts)
-        (length reviewers.now.texts) forbidden.items }
-    ensures { IfOk result (λ said. NumbersSaid proposers.now reviewers.now weights.items
-        forced.items forbidden.items said) }
+    ensures { IfOk result (λ said. NumbersSaid proposers.now.declared reviewers.now.declared
+        weights.entry.entries forced.entry.items forbidden.entry.items said) }
 {
     let seconds = second_weights(alloc, &weights)?;
     let weights = number_weights(alloc, proposers, reviewers, &weights)?;
-    let forced = number_pairs(alloc, proposers, reviewers, &forced)?;
-    let forbidden = number_pairs(alloc, proposers, reviewers, &forbidden)?;
+    let forced = number_pairs(alloc, proposers, reviewers, forced)?;
+    let forbidden = number_pairs(alloc, proposers, reviewers, forbidden)?;
     Ok(SaidNumbered {
         weights,
         seconds,
@@ -301,19 +326,18 @@ fn number_both(
     reviewer_names: &Names<'_>,
     proposers: Vec<Declared<'_>>,
     reviewers: Vec<Declared<'_>>,
-    order: Option<Order>,
+    order: Option<Order<'_>>,
 ) -> Result<BothNumbered, AllocError>
     requires few_proposers { length proposer_names.now.declared < 2 ^ 32 }
     requires few_reviewers { length reviewer_names.now.declared < 2 ^ 32 }
     requires few { length proposers.items < 2 ^ 32 }
     requires proposers_in { AreAgentsBelow (length reviewer_names.now.texts) proposers.items }
     requires reviewers_in { AreAgentsBelow (length proposer_names.now.texts) reviewers.items }
-    requires order_in { IsOrderBelow (length proposer_names.now.texts) order }
     ensures { IfOk result (λ agents. NumbersBoth proposer_names.now reviewer_names.now
-        proposers.entry.items reviewers.entry.items order agents) }
+        proposers.entry.items reviewers.entry.items order.entry agents) }
 {
     let count = proposers.len();
-    let first = number_order(alloc, proposer_names, order);
+    let first = number_order(alloc, proposer_names, order)?;
     let order = full_order(alloc, count, first)?;
     let proposers = number_agents(alloc, reviewer_names, proposers)?;
     let reviewers = number_agents(alloc, proposer_names, reviewers)?;
@@ -388,16 +412,19 @@ fn number_names(names: &Names<'_>, in_order: bool, entries: &mut [u32])
     }
 }
 
-/// A pair by number.
-fn number_pair(proposers: &Names<'_>, reviewers: &Names<'_>, pair: Pair) -> (u32, u32)
+/// A pair of two names by number.
+fn number_pair(
+    proposers: &Names<'_>,
+    reviewers: &Names<'_>,
+    proposer: &[u8],
+    reviewer: &[u8],
+) -> (u32, u32)
     requires few_proposers { length proposers.now.declared < 2 ^ 32 }
     requires few_reviewers { length reviewers.now.declared < 2 ^ 32 }
-    requires in_range { IsPairBelow (length proposers.now.texts) (length reviewers.now.texts) pair }
-    ensures { result ≡ pair_among proposers.now.declared reviewers.now.declared
-        (pair_in proposers.now.texts reviewers.now.texts pair) }
+    ensures { result ≡ (number_in proposers.now.declared proposer.now, number_in reviewers.now.declared reviewer.now) }
 {
-    let proposer = proposers.number(pair.proposer);
-    let reviewer = reviewers.number(pair.reviewer);
+    let proposer = proposers.number_of(proposer);
+    let reviewer = reviewers.number_of(reviewer);
     (proposer, reviewer)
 }
 
@@ -406,19 +433,17 @@ fn number_pairs(
     alloc: Global,
     proposers: &Names<'_>,
     reviewers: &Names<'_>,
-    pairs: &[Pair],
+    pairs: Vec<Pair<'_>>,
 ) -> Result<Vec<(u32, u32)>, AllocError>
     requires few_proposers { length proposers.now.declared < 2 ^ 32 }
     requires few_reviewers { length reviewers.now.declared < 2 ^ 32 }
-    requires in_range { ArePairsBelow (length proposers.now.texts) (length reviewers.now.texts)
-        pairs.now }
     ensures { IfOk result (λ v. v.items
-        ≡ map (pair_among proposers.now.declared reviewers.now.declared)
-        (map (pair_in proposers.now.texts reviewers.now.texts) pairs.now)) }
+        ≡ map (pair_among proposers.now.declared reviewers.now.declared) (map pair_in pairs.entry.items)) }
 {
     let mut numbers = Vec::with_capacity(alloc, pairs.len())?;
     'pairs: for pair in pairs {
-        numbers.push(number_pair(proposers, reviewers, *pair))?;
+        let numbered = number_pair(proposers, reviewers, pair.proposer, pair.reviewer);
+        numbers.push(numbered)?;
     }
     Ok(numbers)
 }
@@ -428,104 +453,57 @@ fn number_weights(
     alloc: Global,
     proposers: &Names<'_>,
     reviewers: &Names<'_>,
-    weights: &[Weight],
+    weights: &Weighed<'_>,
 ) -> Result<Vec<(u32, u32, i64)>, AllocError>
     requires few_proposers { length proposers.now.declared < 2 ^ 32 }
     requires few_reviewers { length reviewers.now.declared < 2 ^ 32 }
-    requires in_range { ArePairsBelow (length proposers.now.texts) (length reviewers.now.texts)
-        (pairs_of weights.now) }
     ensures { IfOk result (λ v. v.items ≡ map (weight_among proposers.now.declared
-        reviewers.now.declared)
-        (map (given_in proposers.now.texts reviewers.now.texts) weights.now)) }
+        reviewers.now.declared) (map given_in weights.now.entries)) }
 {
     let mut numbers = Vec::with_capacity(alloc, weights.len())?;
-    'weights: for weight in weights {
-        let (proposer, reviewer) = number_pair(proposers, reviewers, weight.pair);
-        numbers.push((proposer, reviewer, weight.weight))?;
+    'weights: for (names, given) in weights.iter() {
+        let (proposer, reviewer) = number_pair(proposers, reviewers, names.0.text, names.1.text);
+        numbers.push((proposer, reviewer, i64::from(given.weight)))?;
     }
     Ok(numbers)
 }
 
 /// The second weights of pairs.
-fn second_weights(alloc: Global, weights: &[Weight]) -> Result<Vec<i64>, AllocError>
-    ensures { IfOk result (λ v. v.items ≡ map (λ (w : Weight). w.second) weights.now) }
+fn second_weights(alloc: Global, weights: &Weighed<'_>) -> Result<Vec<i64>, AllocError>
+    ensures { IfOk result (λ v. v.items ≡ map second_of weights.now.entries) }
 {
     let mut seconds = Vec::with_capacity(alloc, weights.len())?;
-    'weights: for weight in weights {
-        seconds.push(weight.second)?;
+    'weights: for (_, given) in weights.iter() {
+        seconds.push(i64::from(given.second))?;
     }
     Ok(seconds)
 }
 
 /// The numbers of the proposers that come first by an order; none do where there is no order.
-fn number_order(alloc: Global, proposers: &Names<'_>, order: Option<Order>) -> Vec<u32>
-    requires few { length proposers.now.declared < 2 ^ 32 }
-    requires in_range { IsOrderBelow (length proposers.now.texts) order }
-    ensures { result.items ≡ map (number_in proposers.now.declared)
-        (names_first (option_map (order_of proposers.now.texts) order)) }
+fn number_order(
+    alloc: Global,
+    proposers: &Names<'_>,
+    order: Option<Order<'_>>,
+) -> Result<Vec<u32>, AllocError>
+    requires { length proposers.now.declared < 2 ^ 32 }
+    ensures { IfOk result (λ v. v.items ≡ map (number_in proposers.now.declared)
+        (names_first (option_map order_of order.entry))) }
 {
     match order {
-        Some(Order { mut names, .. }) => {
-            number_names(proposers, proposers.are_in_order(), &mut names);
-            names
-        }
-        None => Vec::new(alloc),
+        Some(Order { tokens, .. }) => number_tokens(alloc, proposers, &tokens),
+        None => Ok(Vec::new(alloc)),
     }
 }
 
-/// All numbers below a count: first these, in their order, and then the others, which rise.
-fn full_order(alloc: Global, count: usize, first: Vec<u32>) -> Result<Vec<u32>, AllocError>
-    requires { count < 2 ^ 32 }
-    ensures { IfOk result (λ v. v.items ≡ full_order count first.items) }
+/// The numbers of the names behind the first token.
+fn number_tokens(alloc: Global, names: &Names<'_>, tokens: &[&[u8]]) -> Result<Vec<u32>, AllocError>
+    requires { length names.now.declared < 2 ^ 32 }
+    ensures { IfOk result (λ v. v.items ≡ map (number_in names.now.declared)
+        (drop 1 (texts_of tokens.now))) }
 {
-    let is_first = marked(alloc, count, &first)?;
-    let mut order = first;
-    'numbers: for number in 0..count {
-        push_other(&mut order, is_first[number], number as u32)?;
+    let mut numbers = Vec::with_capacity(alloc, tokens.len())?;
+    'names: for at in 1..tokens.len() {
+        numbers.push(names.number_of(tokens[at]))?;
     }
-    Ok(order)
-}
-
-/// Puts a number behind an order, unless it is one of those that come first.
-fn push_other(order: &mut Vec<u32>, is_first: bool, number: u32) -> Result<(), AllocError>
-    ensures { IfOk result (λ _. order.new.items ≡ order.old.items
-        ++ (if is_first then [] else number ∷ [])) }
-{
-    if !is_first {
-        order.push(number)?;
-    }
-    Ok(())
-}
-
-/// For each number below a count, whether it is one of these.
-fn marked(alloc: Global, count: usize, numbers: &[u32]) -> Result<Vec<bool>, AllocError>
-    ensures each { IfOk result (λ v. length v.items ≡ count) }
-    ensures marked { IfOk result (λ v. (n : ℕ) → n < count
-        → slice_index_or v.items n false ≡ list_any (λ m. m == n) numbers.now) }
-{
-    let mut marks = vec![in alloc; false; count]?;
-    mark_all(&mut marks, numbers);
-    Ok(marks)
-}
-
-/// Marks numbers, where they have a mark.
-fn mark_all(marks: &mut [bool], numbers: &[u32])
-    ensures each { length marks.new ≡ length marks.old }
-    ensures marked { (n : ℕ) → n < length marks.old → slice_index_or marks.new n false
-        ≡ (slice_index_or marks.old n false || list_any (λ m. m == n) numbers.now) }
-{
-    'numbers: for number in numbers {
-        mark(marks, *number);
-    }
-}
-
-/// Marks a number, where it has a mark.
-fn mark(marks: &mut [bool], number: u32)
-    ensures each { length marks.new ≡ length marks.old }
-    ensures marked { (n : ℕ) → n < length marks.old → slice_index_or marks.new n false
-        ≡ (slice_index_or marks.old n false || number == n) }
-{
-    if (number as usize) < marks.len() {
-        marks[number as usize] = true;
-    }
+    Ok(numbers)
 }

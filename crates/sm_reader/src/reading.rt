@@ -12,21 +12,22 @@ ghost use Rattle.sm_text.specs.Tokens.{tokens};
 ghost use Rattle.sm_reader.specs.Judging.{heading_of, verdict_on};
 ghost use Rattle.sm_reader.specs.InstanceText.{instance_text, read_of, IsTextFault, before_header, behind_header, unknown_lines, least, input_of, two_sides};
 ghost use Rattle.sm_text.specs.Slices.{texts_of};
-ghost use Rattle.sm_reader.specs.Draft.{said_of, IsDraft, JudgesTokens, IsRefusedBy};
+ghost use Rattle.sm_reader.specs.Draft.{said_of, IsDraft, JudgesTokens, KeepsOrder, IsRefusedBy};
 ghost use Rattle.sm_reader.specs.Numbering.{IsReady, IsUnknownFault};
 ghost use Rattle.sm_reader.specs.Reading.{IsHeaded, IsFaultOf, heading_is, IsHeadingFault, EndsAt, Finishes};
 
-use crate::draft::{Draft, empty};
+use crate::draft::{Draft, Order, empty};
 use crate::faults::TextFault;
 use crate::forms::header_of;
 use crate::header::Header;
-use crate::judging::{Step, judge};
+use crate::judging::{Judged, Step, judge};
 use crate::listed::{add_line, agent_line};
 use crate::numbering::{first_unknown, numbered_persons, numbered_sides};
 use sm_instance::{Input, Instance, Kind, Persons};
 use sm_keys::{cut_enough, line_from};
 use sm_text::{MOST_BYTES, RefusalKind, TextHash};
 use std::alloc::{AllocError, Global};
+use std::mem::swap;
 
 /// So many bytes have too few names for look-ups of chosen ones to cost time.
 const FEW_BYTES: usize = 65_536;
@@ -237,16 +238,32 @@ fn judge_tokens<'a>(
         (tokens text.now)) line f) }
 {
     let found = cut_enough(text, kept)?;
-    judge(alloc, header, draft, line, kept, found)
+    match judge(alloc, header, draft, line, kept, found)? {
+        Judged::Added => Ok(Step::Goes),
+        Judged::Orders => {
+            keep_order(draft, line, kept);
+            Ok(Step::Goes)
+        }
+        Judged::Ends => Ok(Step::Stops),
+    }
+}
+
+/// Keeps the tokens of the line that orders proposers, and leaves none.
+fn keep_order<'a>(draft: &mut Draft<'a>, line: u32, kept: &mut Vec<&'a [u8]>)
+    ensures { KeepsOrder line (texts_of kept.old.items) draft.old draft.new }
+{
+    let mut tokens = Vec::new(*kept.allocator());
+    swap(kept, &mut tokens);
+    draft.order = Some(Order { tokens, line });
 }
 
 /// The hashes for the names and pairs of an instance, behind which so many bytes stand. The text's are wanted where it has
 /// weights, and where many names may stand behind it, each of which will be looked for.
 fn hash_for(draft: &Draft<'_>, behind: usize) -> TextHash {
-    if draft.weighed.is_empty() && behind > FEW_BYTES {
+    if draft.weights.is_empty() && behind > FEW_BYTES {
         TextHash::of(draft.text)
     } else {
-        *draft.weighed.hasher()
+        *draft.weights.hasher()
     }
 }
 

@@ -1,5 +1,5 @@
 use Rattle.std.proofs.Common.{◌≡◌, ℕ, ap, ◌∙◌, length, arith}
-use Rattle.sm_reader.specs.InstanceText.{full_order}
+use Rattle.sm_order.specs.Full.{full_order}
 use Rattle.sm_reader.proofs.numbering.number_both.Goals as goal
 
 pub returns : goal.returns
@@ -9,5 +9,5 @@ returns c =
     record {
       proposers = c.in_ok-proposers.ensures;
       reviewers = c.in_ok-reviewers.ensures;
-      order = c.in_ok-order.ensures ∙ ap (λ (n : ℕ). full_order n c.number_order-first.result.items) count ∙ ap (full_order (length ps)) c.number_order-first.ensures;
+      order = c.in_ok-order.ensures ∙ ap (λ (n : ℕ). full_order n c.in_ok-first.first.items) count ∙ ap (full_order (length ps)) c.in_ok-first.ensures;
     }

@@ -28,10 +28,10 @@ held-requires-clause-few c =
     let ready = c.requires.ready in
     let sides = c.in_ok-sides.ensures.sides in
     let d = c.args.draft in
-    let p = d.proposer_names in
-    let r = d.reviewer_names in
-    let weights = ap length sides.weights ∙ length-map (map (given_in p.texts r.texts) d.weights.items) (weight_among p.declared r.declared) ∙ length-map d.weights.items (given_in p.texts r.texts) in
-    let pairs = λ (xs : List Pair). length-map (map (pair_in p.texts r.texts) xs) (pair_among p.declared r.declared) ∙ length-map xs (pair_in p.texts r.texts) in
+    let p = d.proposer_names.declared in
+    let r = d.reviewer_names.declared in
+    let weights = ap length sides.weights ∙ length-map (map given_in d.weights.entries) (weight_among p r) ∙ length-map d.weights.entries given_in in
+    let pairs = λ (xs : List Pair). length-map (map pair_in xs) (pair_among p r) ∙ length-map xs pair_in in
     let forced = ap length sides.forced ∙ pairs d.forced.items in
     let forbidden = ap length sides.forbidden ∙ pairs d.forbidden.items in
     omega (arith, weights, forced, forbidden, ready.draft.few, ready.few)

@@ -1,8 +1,8 @@
 use Rattle.std.proofs.Common.{◌≡◌, ◌<◌, ◌++◌, ◌∷◌, [], ℕ, false, length, filter, not, cond, eqb, sym, ap, ◌∙◌, append_assoc, arith}
 use Rattle.std.specs.List.{list_any, range_with_len}
 use Rattle.std.proofs.lemmas.List.{get_or_default}
-use Rattle.sm_reader.proofs.FullLemmas.{filter_next, unless}
-use Rattle.sm_reader.proofs.numbering.full_order.Goals as goal
+use Rattle.sm_order.proofs.FullLemmas.{filter_next, unless}
+use Rattle.sm_order.proofs.full.full_order.Goals as goal
 
 pub numbers-preserved : goal.numbers-preserved
 numbers-preserved c =

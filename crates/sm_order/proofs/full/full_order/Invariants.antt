@@ -1,6 +1,6 @@
 use Rattle.std.proofs.Common.{◌≡◌, ◌++◌, ◌==◌, ℕ, filter, not}
 use Rattle.std.specs.List.{list_any, range_with_len}
-use Rattle.sm_reader.proofs.numbering.full_order.Given as goal
+use Rattle.sm_order.proofs.full.full_order.Given as goal
 
 -- those that come first, and the others so far
 abbrev pub invariant-numbers : goal.invariant-numbers

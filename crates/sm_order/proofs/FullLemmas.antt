@@ -1,17 +1,16 @@
 -- The full order of some numbers that come first.
-use Rattle.std.proofs.Common.{◌≡◌, ◌≢◌, ℕ, zero, suc, ◌+◌, ◌-◌, ◌<◌, ◌≤◌, ◌||◌, eqb, Bool, true, false, not, cond, List, [], ◌∷◌, ◌++◌, length, filter, get_or, set, take, refl, sym, ap, ◌∙◌, subst, inl, inr, arith, All, AllPairs}
+use Rattle.std.proofs.Common.{◌≡◌, ◌≢◌, ℕ, zero, suc, ◌+◌, ◌-◌, ◌<◌, ◌≤◌, ◌||◌, eqb, Bool, true, false, not, cond, List, [], ◌∷◌, ◌++◌, length, filter, get_or, take, refl, sym, ap, ◌∙◌, subst, inl, inr, arith, All, AllPairs}
 use Rattle.std.specs.List.{list_any, range_with_len}
 use Rattle.std.proofs.lemmas.Bool.{false≢true, cases_lt, eqb-true}
 use Rattle.std.proofs.lemmas.Bool.Decides.{nat_tests}
-use Rattle.std.proofs.lemmas.List.{length-append, map-id, get_or-set_same, get_or-set_other, take_more, take_all, get_or-append-add}
-use Rattle.sm_keys.proofs.TableLemmas.{cases_eq}
+use Rattle.std.proofs.lemmas.List.{length-append, map-id, take_more, take_all, get_or-append-add}
 use Rattle.std.proofs.lemmas.List.Elements.{All-filter, filter_passes}
 use Rattle.std.proofs.lemmas.List.Folds.{list_any_at, list_any-append}
 use Rattle.std.proofs.lemmas.List.FromFn.{length-range_with_len, get_or-range_with_len, filter_of_map_range_with_len_more}
 use Rattle.std.proofs.lemmas.List.Kept.{AllPairs-filter}
 use Rattle.std.proofs.Math.ListN.{get_or-append}
 use Rattle.sm_lists.specs.EachOnce.{IsEachOnce}
-use Rattle.sm_reader.specs.InstanceText.{full_order}
+use Rattle.sm_order.specs.Full.{full_order}
 
 -- the others up to a number, with one more
 pub filter_next : (p : ℕ → Bool) (n : ℕ) → filter p (range_with_len 0 (n + 1)) ≡ filter p (range_with_len 0 n) ++ cond (p n) (n ∷ []) []
@@ -23,33 +22,6 @@ filter_next p n =
 pub unless : (t : Bool) (n : ℕ) → cond t [] (n ∷ []) ≡ cond (not t) (n ∷ []) []
 unless true n = refl
 unless false n = refl
-
--- a mark that is set, and the others
-pub marked_now : (marks : List Bool) (number n : ℕ) → number < length marks → n < length marks → get_or (set marks number true) n false ≡ (get_or marks n false || eqb number n)
-marked_now marks number n inside below = elim (cases_eq number n) [
-  | inl same ↦
-      ap (λ k. get_or (set marks k true) n false) same ∙ get_or-set_same marks n true false below
-      ∙ sym (or_true (get_or marks n false) (eqb number n) (let e : eqb number n ≡ true = grind (arith, nat_tests) in e))
-  | inr differ ↦
-      get_or-set_other marks number n true false (λ same. differ (sym same))
-      ∙ sym (or_false (get_or marks n false) (eqb number n) (let e : eqb number n ≡ false = grind (arith, nat_tests) in e))
-]
-  where
-    or_true : (s t : Bool) → t ≡ true → (s || t) ≡ true
-    or_true true t h = refl
-    or_true false t h = h
-
-    or_false : (s t : Bool) → t ≡ false → (s || t) ≡ s
-    or_false true t h = refl
-    or_false false t h = h
-
--- a number without a mark is none of those that have one
-pub unmarked_still : (marks : List Bool) (number n : ℕ) → length marks ≤ number → n < length marks → get_or marks n false ≡ (get_or marks n false || eqb number n)
-unmarked_still marks number n past below = sym (or_false (get_or marks n false) (eqb number n) (let e : eqb number n ≡ false = grind (arith, nat_tests) in e))
-  where
-    or_false : (s t : Bool) → t ≡ false → (s || t) ≡ s
-    or_false true t h = refl
-    or_false false t h = h
 
 -- no number is marked before the first
 pub marks_none : (old : Bool) → old ≡ (old || false)

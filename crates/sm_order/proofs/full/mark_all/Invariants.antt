@@ -1,6 +1,6 @@
 use Rattle.std.proofs.Common.{◌≡◌, ◌<◌, ◌||◌, ◌==◌, ℕ, false, get_or, length, take}
 use Rattle.std.specs.List.{list_any}
-use Rattle.sm_reader.proofs.numbering.mark_all.Given as goal
+use Rattle.sm_order.proofs.full.mark_all.Given as goal
 
 -- the numbers so far are marked
 abbrev pub invariant-numbers : goal.invariant-numbers

@@ -1,6 +1,6 @@
 use Rattle.std.proofs.Common.{◌∙◌, refl, arith}
-use Rattle.sm_reader.proofs.FullLemmas.{marks_none, marks_more, marks_end}
-use Rattle.sm_reader.proofs.numbering.mark_all.Goals as goal
+use Rattle.sm_order.proofs.FullLemmas.{marks_none, marks_more, marks_end}
+use Rattle.sm_order.proofs.full.mark_all.Goals as goal
 
 pub numbers-init : goal.numbers-init
 numbers-init c = record {
