@@ -36,7 +36,7 @@ pub(crate) fn follow(alloc: Global, market: &Market, chain: &Chain) -> Result<Mo
     ensures market { OnOk result (IsMarket market.now) }
     ensures limits { OnOk result (IsWithinLimits market.now) }
 {
-    let mut of_proposers = no_moves(alloc, market.proposers() as usize)?;
+    let mut of_proposers = no_moves(alloc, market.proposers() as usize, chain)?;
     let mut leaders = Vec::with_capacity(alloc, chain.rotations.len())?;
     let mut at = places_in(alloc, market, &chain.first)?;
     let at = at.as_mut_slice();
@@ -52,15 +52,42 @@ pub(crate) fn follow(alloc: Global, market: &Market, chain: &Chain) -> Result<Mo
     })
 }
 
-/// No moves of anybody yet.
-fn no_moves(alloc: Global, proposers: usize) -> Result<Vec<Vec<(u32, u32)>>, AllocError>
+/// No moves of anybody yet, with room for all that a chain has.
+fn no_moves(
+    alloc: Global,
+    proposers: usize,
+    chain: &Chain,
+) -> Result<Vec<Vec<(u32, u32)>>, AllocError>
     ensures { IfOk result (λ moves. moves_in moves.items ≡ replicate proposers []) }
 {
+    let counts = move_counts(alloc, proposers, chain)?;
     let mut moves = Vec::with_capacity(alloc, proposers)?;
-    for _ in 0..proposers {
-        moves.push(Vec::new(alloc))?;
+    for p in 0..proposers {
+        moves.push(Vec::with_capacity(alloc, counts[p] as usize)?)?;
     }
     Ok(moves)
+}
+
+/// How many moves each proposer will have.
+fn move_counts(alloc: Global, proposers: usize, chain: &Chain) -> Result<Vec<u32>, AllocError>
+    ensures { IfOk result (λ counts. length counts.items ≡ proposers) }
+{
+    let mut counts = vec![in alloc; 0; proposers]?;
+    for rotation in &chain.rotations {
+        count_moves(&rotation.pairs, &mut counts);
+    }
+    Ok(counts)
+}
+
+/// Counts one move more for each proposer of a rotation.
+fn count_moves(rotation: &[(u32, u32)], counts: &mut [u32])
+    ensures { length counts.new ≡ length counts.old }
+{
+    for &(p, _) in rotation {
+        if (p as usize) < counts.len() {
+            counts[p as usize] = counts[p as usize].wrapping_add(1);
+        }
+    }
 }
 
 /// The places that the proposers hold, 0 for who is unmatched.
