@@ -10,9 +10,13 @@ ghost use Rattle.sm_keys.specs.Enough.{AreEnough, StandsTwice};
 use crate::tokens::{Found, cut, is, token_from};
 use sm_text::is_name;
 use std::alloc::{AllocError, Global};
+use std::mem::swap;
 
 /// A line of more bytes is long. So few bytes have too few tokens for memory to matter.
 pub(crate) const LONG: usize = 1 << 20;
+
+/// The memory for more tokens isn't kept for the next line.
+const MANY_TOKENS: usize = 65_536;
 
 /// So many tokens at the front of a line are kept in any case.
 const FIRST_TOKENS: usize = 10;
@@ -32,10 +36,19 @@ pub fn cut_enough<'a>(line: &'a [u8], into: &mut Vec<&'a [u8]>) -> Result<Found,
     ensures bad { IfOk result (λ found. found.bad ≡ list_any is_bad (texts_of into.new.items)) }
     ensures names { IfOk result (λ found. AreNamesAtEnd found.names (texts_of into.new.items)) }
 {
+    forget_long(into);
     if line.len() > LONG {
         return cut_long(line, into);
     }
     cut(line, into)
+}
+
+/// Gives back the memory for the tokens of a long line.
+fn forget_long(into: &mut Vec<&[u8]>) {
+    if into.len() > MANY_TOKENS {
+        let mut none = Vec::new(*into.allocator());
+        swap(into, &mut none);
+    }
 }
 
 /// The same for a long line. Never inlined, so that others pay nothing for it.

@@ -15,7 +15,7 @@ use crate::known::{Known, begins_short, list_known};
 use crate::recent::Recent;
 use crate::tokens::{behind_blank, token_from};
 use indexmap::IndexSet;
-use sm_text::TextHash;
+use sm_text::{MOST_AGENTS, MOST_ENTRIES, TextHash};
 use std::alloc::{AllocError, Global};
 use std::marker::Model;
 use std::mem::swap;
@@ -469,11 +469,21 @@ fn has_index(names: &[Key<'_>], name: Key<'_>, index: u32) -> bool
     }
 }
 
+/// The room for the names of a side of which there are so many. Where they are more than a side has agents, the text will be refused,
+/// and may go on with names up to the limit of entries.
+fn room_for(names: usize) -> usize {
+    if names > MOST_AGENTS {
+        MOST_ENTRIES
+    } else {
+        2 * names
+    }
+}
+
 /// Puts names anew, in their order, so that they are found by these hashes.
 fn put_anew(texts: &mut IndexSet<Key<'_>, TextHash>, hash: TextHash) -> Result<(), AllocError>
     ensures { keys texts.new ≡ keys texts.old }
 {
-    let room = 2 * texts.len();
+    let room = room_for(texts.len());
     let mut anew = IndexSet::with_capacity_and_hasher(*texts.allocator(), room, hash)?;
     anew.append(texts)?;
     swap(texts, &mut anew);

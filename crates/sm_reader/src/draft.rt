@@ -119,16 +119,27 @@ fn empty_with<'a>(
     }
 }
 
+/// So many entries are more than most texts have. Room for all that may still come is made then.
+const MANY: usize = 65_536;
+
+/// A line that makes an entry mostly has at least so many bytes.
+const BYTES_OF_LINE: usize = 13;
+
 /// Makes a map ready for one more entry: the first is put by hashes that the text can't choose, which take time in the length of the
-/// text.
+/// text. Where there are many, there is room for all that the text may have from then on: room that isn't used costs nothing, and the
+/// map doesn't have to move.
 pub(crate) fn make_ready<K: Eq + Hash + Drop, V: Drop>(
     map: &mut IndexMap<K, V, TextHash>,
     text: &[u8],
-)
-    ensures { map.new.entries ≡ map.old.entries }
+) -> Result<(), AllocError>
+    ensures { IfOk result (λ _. map.new.entries ≡ map.old.entries) }
 {
     if map.is_empty() {
         let mut anew = IndexMap::with_hasher(*map.allocator(), TextHash::of(text));
         swap(map, &mut anew);
     }
+    if map.len() == MANY {
+        map.reserve(text.len() / BYTES_OF_LINE)?;
+    }
+    Ok(())
 }

@@ -440,7 +440,7 @@ fn add_weight<'a>(
     let Some(weights) = weights_on(weights, line) else {
         return Err(TextFault::Refused(RefusalKind::BadNumber, line));
     };
-    make_ready(&mut draft.weights, draft.text);
+    make_ready(&mut draft.weights, draft.text)?;
     let pair = (TextKey { text: proposer }, TextKey { text: reviewer });
     if draft.weights.insert(pair, weights)?.is_some() {
         return Err(TextFault::Refused(RefusalKind::RepeatedWeight, line));

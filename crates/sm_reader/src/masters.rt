@@ -108,7 +108,7 @@ fn put_master<'a>(
         (texts_of master.entry.entries.now)) }
 {
     let MasterRuns { name, entries } = master;
-    make_ready(&mut draft.masters, draft.text);
+    make_ready(&mut draft.masters, draft.text)?;
     let names = Vec::from_slice(alloc, entries)?;
     draft.masters.insert(TextKey { text: name }, names)?;
     draft.entries += entries.len();

@@ -13,4 +13,4 @@ returns c =
     let old = keys c.args.texts.now in
     let equal = (λ (a b : Key). bytes_eq (text_of a) (text_of b)) in
     ap keys c.swap.ensures.x_after ∙ c.in_ok-append.ensures.keys ∙ ap (λ (ks : List Key). insert_all equal ks old) c.in_ok-anew.ensures.empty
-    ∙ set_all_distinct (on_equiv text_of nat_list_eq_equiv) [] old c.len-room.ensures.unique
+    ∙ set_all_distinct (on_equiv text_of nat_list_eq_equiv) [] old c.len.ensures.unique

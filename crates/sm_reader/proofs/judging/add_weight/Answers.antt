@@ -24,7 +24,7 @@ returns-then-is_some-clause-fault c =
     let numbers : (is_none (weight_in c.args.weights.weight.now) || is_none (second_in further)) ≡ false = rw (spelled_out.weight, spelled_out.second) refl in
     let met : list_any (is_given_to p r) (weights_in c.args.draft.now) ≡ true =
     sym (weighed_among p r c.args.draft.now.weights.entries)
-    ∙ ap (λ (es : List ((TextKey × TextKey) × Weights)). is_some (lookup (λ (k : TextKey × TextKey). bytes_eq p (spelled k.0) && bytes_eq r (spelled k.1)) es)) (sym c.make_ready.ensures)
+    ∙ ap (λ (es : List ((TextKey × TextKey) × Weights)). is_some (lookup (λ (k : TextKey × TextKey). bytes_eq p (spelled k.0) && bytes_eq r (spelled k.1)) es)) (sym c.in_ok-make_ready.ensures)
     ∙ sym (ap is_some c.in_ok-insert.ensures.old) ∙ sym c.is_some.ensures ∙ c.if-is_some.true in
     (weight_fault_is (weights_in c.args.draft.now) p r c.args.weights.weight.now further false true c.in_ok-check_pair.ensures.names numbers met, refl)
 
@@ -44,12 +44,12 @@ returns-clause-put c =
     let none = sym c.in_ok-insert.ensures.old ∙ none_if c.in_ok-insert.field-0 absent in
     let met : list_any (is_given_to p r) (weights_in d) ≡ false =
     sym (weighed_among p r d.weights.entries)
-    ∙ ap (λ (es : List ((TextKey × TextKey) × Weights)). is_some (lookup (λ (k : TextKey × TextKey). bytes_eq p (spelled k.0) && bytes_eq r (spelled k.1)) es)) (sym c.make_ready.ensures)
+    ∙ ap (λ (es : List ((TextKey × TextKey) × Weights)). is_some (lookup (λ (k : TextKey × TextKey). bytes_eq p (spelled k.0) && bytes_eq r (spelled k.1)) es)) (sym c.in_ok-make_ready.ensures)
     ∙ sym (ap is_some c.in_ok-insert.ensures.old) ∙ absent in
     record {
       added = (key, weights);
       faultless = weight_fault_is (weights_in d) p r run further false false c.in_ok-check_pair.ensures.names numbers met;
       given = given_is p r run further c.args.line weights spelled_out;
-      weights = c.in_ok-insert.ensures.entries ∙ insert_entry-new _ mid key weights none ∙ ap (λ es. es ++ (key, weights) ∷ []) c.make_ready.ensures;
+      weights = c.in_ok-insert.ensures.entries ∙ insert_entry-new _ mid key weights none ∙ ap (λ es. es ++ (key, weights) ∷ []) c.in_ok-make_ready.ensures;
       changes = refl;
     }

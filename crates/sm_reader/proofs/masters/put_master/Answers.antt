@@ -24,14 +24,14 @@ returns c =
     let right = fits_within (masters_declared d) name entries d.entries c.requires in
     let long : length entries ≡ length c.args.master.entries.now = length-map c.args.master.entries.now (λ (x : Bor (List ℕ)). x.now) in
     let none = none_if (lookup (λ (k : TextKey). bytes_eq name (spelled k)) mid.entries)
-    (ap (λ (es : List (TextKey × Vec (Bor (List ℕ)) Global)). is_some (lookup (λ (k : TextKey). bytes_eq name (spelled k)) es)) c.make_ready.ensures
+    (ap (λ (es : List (TextKey × Vec (Bor (List ℕ)) Global)). is_some (lookup (λ (k : TextKey). bytes_eq name (spelled k)) es)) c.in_ok-make_ready.ensures
     ∙ declared_among name d.masters.entries ∙ right.0) in
     record {
       master = (key, list);
       faultless = c.requires;
       is = ap (λ xs. record { name = name; entries = texts_of xs }) c.in_ok-names.ensures.items;
       fits = right.1;
-      masters = c.in_ok-insert.ensures.entries ∙ insert_entry-new _ mid key list none ∙ ap (λ es. es ++ (key, list) ∷ []) c.make_ready.ensures;
+      masters = c.in_ok-insert.ensures.entries ∙ insert_entry-new _ mid key list none ∙ ap (λ es. es ++ (key, list) ∷ []) c.in_ok-make_ready.ensures;
       entries_more = omega (arith, long);
       changes = refl;
     }
