@@ -21,6 +21,7 @@ impl Input {
     ghost use Rattle.sm_instance.specs.Inputs.{IsInput, kind_of, left_of, right_of};
 
     /// The kind.
+    #[inline(always)]
     pub fn kind(&self) -> Kind
         ensures kind { result ≡ kind_of self.now }
         ensures sound { IsInput self.now }
@@ -89,6 +90,7 @@ impl Input {
     /// # Errors
     ///
     /// As [`LineWriter::put_name`].
+    #[inline(always)]
     pub fn put_left_name(&self, into: &mut LineWriter, at: u32) -> Result<(), AllocError>
         requires { at < length (left_of self.now) }
         ensures { PutsPiece into.old into.new (32 ∷ (agent_at (left_of self.now) at).name) result }
@@ -105,6 +107,7 @@ impl Input {
     /// # Errors
     ///
     /// As [`LineWriter::put_name`].
+    #[inline(always)]
     pub fn put_right_name(&self, into: &mut LineWriter, at: u32) -> Result<(), AllocError>
         requires { at < length (right_of self.now) }
         ensures { PutsPiece into.old into.new (32 ∷ (agent_at (right_of self.now) at).name) result }

@@ -139,6 +139,7 @@ impl Instance {
     }
 
     /// The kind, which is a marriage or hospitals.
+    #[inline(always)]
     pub fn kind(&self) -> Kind
         ensures kind { result ≡ self.now.kind }
         ensures instance { IsInstance self.now }

@@ -87,6 +87,7 @@ impl Persons {
     }
 
     /// The kind. The read is for the proof alone: it shows what is kept of the persons.
+    #[inline(always)]
     pub(crate) fn kind(&self) -> Kind
         ensures kind { result ≡ Kind.Roommates }
         ensures sound { ArePersons self.now }

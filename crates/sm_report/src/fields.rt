@@ -56,7 +56,8 @@ pub(crate) fn put_fields(
     Ok(())
 }
 
-/// Puts a field behind a space.
+/// Puts a field behind a space. Always inlined, so that where the kind of a field is known nothing asks for it.
+#[inline(always)]
 pub(crate) fn put_field(
     into: &mut LineWriter,
     input: &Input,
@@ -98,6 +99,7 @@ pub(crate) fn put_field(
 }
 
 /// Puts a seat behind a space: its reviewer's name, in hospitals with `/` and its number behind it.
+#[inline(always)]
 pub(crate) fn put_seat(into: &mut LineWriter, input: &Input, seat: Seat) -> Result<(), AllocError>
     requires { IsOnRight input.now seat.reviewer }
     ensures { PutsText into.old into.new (32 ∷ seat_text input.now seat) result }

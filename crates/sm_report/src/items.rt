@@ -62,6 +62,7 @@ fn item_count(items: Items<'_>) -> usize
 }
 
 /// Puts the item at a place.
+#[inline(always)]
 fn put_item(
     into: &mut LineWriter,
     input: &Input,
@@ -83,6 +84,7 @@ fn put_item(
 }
 
 /// Puts a proposer and a seat.
+#[inline(always)]
 fn put_pair(into: &mut LineWriter, input: &Input, pair: (u32, Seat)) -> Result<(), AllocError>
     requires { ArePair input.now pair.0 pair.1.reviewer }
     ensures { PutsText into.old into.new (spaced (left_name input.now pair.0 ∷ seat_text input.now pair.1 ∷ [])) result }
