@@ -78,7 +78,8 @@ fn worse_ranks(
     Ok(ranks)
 }
 
-/// The same for the places of one proposer, whose levels these are.
+/// The same for the places of one proposer, whose levels these are. The places of one level stand behind one another, so that a
+/// rank is looked up once for each.
 fn ranks_of(
     alloc: Global,
     instance: &Instance,
@@ -95,8 +96,16 @@ fn ranks_of(
 {
     let places = seats.market().proposer_len(p);
     let mut ranks = Vec::with_capacity(alloc, places as usize)?;
+    // No level is 0, so that the first one is looked up.
+    let mut last = 0;
+    let mut rank = 0;
     for i in 0..places {
-        ranks.push(instance.worse_rank(p, levels[i as usize] - 1))?;
+        let level = levels[i as usize];
+        if level != last {
+            last = level;
+            rank = instance.worse_rank(p, level - 1);
+        }
+        ranks.push_reserved(rank);
     }
     Ok(ranks)
 }

@@ -198,7 +198,7 @@ fn ranks_at(
     for i in 0..places {
         let level = placed[i as usize];
         let back = rank_in(crosses[level as usize - 1]);
-        weights.push(i64::from(level + back))?;
+        weights.push_reserved(i64::from(level + back));
     }
     Ok(weights)
 }
@@ -238,7 +238,7 @@ fn given_at(
     }
     let mut weights = Vec::with_capacity(alloc, places as usize)?;
     for i in 0..places {
-        weights.push(given_to(instance, second, p, levels[i as usize] - 1))?;
+        weights.push_reserved(given_to(instance, second, p, levels[i as usize] - 1));
     }
     Ok(weights)
 }

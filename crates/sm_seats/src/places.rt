@@ -74,9 +74,12 @@ fn write_mutual_places(
 {
     places.clear();
     let mut before = 0;
-    for place in 0..instance.reviewer_len(r) as usize {
-        places.push(before)?;
-        if instance.reviewer_crosses(r)[place].place().is_some() {
+    let count = instance.reviewer_len(r) as usize;
+    let crosses = instance.reviewer_crosses(r);
+    places.reserve(count)?;
+    for place in 0..count {
+        places.push_reserved(before);
+        if crosses[place].place().is_some() {
             before += 1;
         }
     }
@@ -117,17 +120,18 @@ fn write_seat_places(
 {
     places.clear();
     let mut before = 0;
-    let count = instance.proposer_len(p);
+    let count = instance.proposer_len(p) as usize;
     let list = instance.proposer_list(p);
     let crosses = instance.proposer_crosses(p);
-    for place in 0..count as usize {
-        places.push(before)?;
+    places.reserve(count + 1)?;
+    for place in 0..count {
+        places.push_reserved(before);
         if crosses[place].place().is_some() {
             let r = list[place] as usize;
             before += firsts[r + 1] - firsts[r];
         }
     }
-    places.push(before)?;
+    places.push_reserved(before);
     Ok(())
 }
 

@@ -127,9 +127,10 @@ fn write_without_inert(
     kept.clear();
     let list = instance.reviewer_list(r);
     let crosses = instance.reviewer_crosses(r);
+    kept.reserve(list.len())?;
     for place in 0..list.len() {
         if crosses[place].place().is_some() {
-            kept.push(list[place])?;
+            kept.push_reserved(list[place]);
         }
     }
     Ok(())
@@ -153,9 +154,10 @@ fn write_begins(
     kept.clear();
     let list = instance.reviewer_list(r);
     let crosses = instance.reviewer_crosses(r);
+    kept.reserve(list.len())?;
     for place in 0..list.len() {
         if let Some(back) = crosses[place].place() {
-            kept.push(begins.entry_at(list[place], back))?;
+            kept.push_reserved(begins.entry_at(list[place], back));
         }
     }
     Ok(())

@@ -45,14 +45,15 @@ loop-i-preserved c =
     let is = ap (λ (xs : List ℕ). get_or xs i 0) c.requires.levels ∙ level_is s p i (omega (arith, same)) in
     let place : level - 1 ≡ written_place s p i = omega (arith, is) in
     let weight : c.given_to.result ≡ pair_given second w p (Some (written_place s p i)) = c.given_to.ensures.weight ∙ ap (λ k. pair_given second w p (Some k)) place in
-    let items : c.push.new.self.items ≡ c.loop-i.weights.items ++ c.given_to.result ∷ [] =
-    c.in_ok-push.ensures.items ∙ ap (λ z. c.loop-i.weights.items ++ z ∷ []) (small_is c.given_to.result (small_of c.given_to.result c.given_to.ensures.size)) in
+    let items : c.push_reserved.new.self.items ≡ c.loop-i.weights.items ++ c.given_to.result ∷ [] =
+    c.push_reserved.ensures.items ∙ ap (λ z. c.loop-i.weights.items ++ z ∷ []) (small_is c.given_to.result (small_of c.given_to.result c.given_to.ensures.size)) in
     record {
       weights =
           items ∙ ap (λ z. c.loop-i.weights.items ++ z ∷ []) weight
           ∙ ap (λ xs. xs ++ pair_given second w p (Some (written_place s p i)) ∷ []) c.loop-i.invariant.weights
           ∙ sym (map-range_with_len_more (λ i. pair_given second w p (Some (written_place s p i))) 0 i i (omega arith));
       light = subst (All IsLight) (sym items) (All-push IsLight c.loop-i.weights.items c.given_to.result c.loop-i.invariant.light c.given_to.ensures.size);
+      room = omega (arith, c.push_reserved.ensures.len, c.push_reserved.ensures.capacity, c.loop-i.invariant.room, c.loop-i-test.true);
     }
 
 pub returns-then-is_empty-clause-weights : goal.returns-then-is_empty-clause-weights

@@ -88,12 +88,13 @@ loop-i-preserved c =
     let weight : pos (level + back) ≡ pair_weight Ranks w p (Some (written_place s p i)) = ap (λ n. pos n) sum in
     let light : IsLight (pos (level + back)) = omega (arith, is, small, listed, c.rank_in-back.ensures, c.proposer_len-written.ensures.length, c.proposer_len-written.ensures.fits) in
     let from : c.from.result ≡ pos (level + back) = c.from.ensures in
-    let items : c.push.new.self.items ≡ c.loop-i.weights.items ++ pos (level + back) ∷ [] =
-    c.in_ok-push.ensures.items ∙ ap (λ z. c.loop-i.weights.items ++ z ∷ []) (small_is c.from.result (small_of c.from.result (subst IsLight (sym from) light)) ∙ from) in
+    let items : c.push_reserved.new.self.items ≡ c.loop-i.weights.items ++ pos (level + back) ∷ [] =
+    c.push_reserved.ensures.items ∙ ap (λ z. c.loop-i.weights.items ++ z ∷ []) (small_is c.from.result (small_of c.from.result (subst IsLight (sym from) light)) ∙ from) in
     record {
       weights =
           items ∙ ap (λ z. c.loop-i.weights.items ++ z ∷ []) weight
           ∙ ap (λ xs. xs ++ pair_weight Ranks w p (Some (written_place s p i)) ∷ []) c.loop-i.invariant.weights
           ∙ sym (map-range_with_len_more (λ i. pair_weight Ranks w p (Some (written_place s p i))) 0 i i (omega arith));
       light = subst (All IsLight) (sym items) (All-push IsLight c.loop-i.weights.items (pos (level + back)) c.loop-i.invariant.light light);
+      room = omega (arith, c.push_reserved.ensures.len, c.push_reserved.ensures.capacity, c.loop-i.invariant.room, c.loop-i-test.true);
     }

@@ -14,13 +14,13 @@ loop-place-preserved c =
     let r = c.args.r in
     let i = c.loop-place.place in
     let on : i < length (row w.reviewers r) = omega (arith, c.loop-place-test.true) in
-    let cross = cross_read c.reviewer_crosses.ensures on c.index-reviewer_crosses-place.is c.place.ensures in
+    let cross = cross_read c.reviewer_crosses-crosses.ensures on c.index-crosses-place.is c.place.ensures in
     let tells = lists_back-told w.proposers r (entry w.reviewers r i) cross c.is_some.ensures in
     let before : c.loop-place.before ≡ mutual_before w r i = c.loop-place.invariant.counted.counted in
-    let places : c.push.new.self.items ≡ map (mutual_before w r) (range_with_len 0 (i + 1)) =
-    c.in_ok-push.ensures.items ∙ ap (λ (front : List ℕ). front ++ c.loop-place.before ∷ []) c.loop-place.invariant.places ∙ ap (λ (n : ℕ). map (mutual_before w r) (range_with_len 0 i) ++ n ∷ []) before
+    let places : c.push_reserved.new.self.items ≡ map (mutual_before w r) (range_with_len 0 (i + 1)) =
+    c.push_reserved.ensures.items ∙ ap (λ (front : List ℕ). front ++ c.loop-place.before ∷ []) c.loop-place.invariant.places ∙ ap (λ (n : ℕ). map (mutual_before w r) (range_with_len 0 i) ++ n ∷ []) before
     ∙ sym (map-range_with_len_more (mutual_before w r) 0 i i (omega arith)) in
     elim c.if-is_some.branch [
-      | then-is_some b ↦ record { counted = rw b.before-is (count_more on (tells ∙ b.if-is_some.true) c.loop-place.invariant.counted); places = places }
-      | else-is_some b ↦ record { counted = rw b.before-is (count_same on (tells ∙ b.if-is_some.false) c.loop-place.invariant.counted); places = places }
+      | then-is_some b ↦ record { counted = rw b.before-is (count_more on (tells ∙ b.if-is_some.true) c.loop-place.invariant.counted); places = places; room = omega (arith, c.push_reserved.ensures.len, c.push_reserved.ensures.capacity, c.loop-place.invariant.room, c.loop-place-test.true) }
+      | else-is_some b ↦ record { counted = rw b.before-is (count_same on (tells ∙ b.if-is_some.false) c.loop-place.invariant.counted); places = places; room = omega (arith, c.push_reserved.ensures.len, c.push_reserved.ensures.capacity, c.loop-place.invariant.room, c.loop-place-test.true) }
     ]

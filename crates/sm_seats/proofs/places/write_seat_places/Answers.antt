@@ -37,8 +37,8 @@ loop-place-preserved c =
     let r = get_or c.proposer_list-list.result.now i 0 in
     let named : r ≡ entry w.proposers p i = ap (λ (l : List ℕ). get_or l i 0) c.proposer_list-list.ensures in
     let before : c.loop-place.before ≡ seats_listed w p i = c.loop-place.invariant.counted.counted in
-    let places : c.push.new.self.items ≡ map (seats_listed w p) (range_with_len 0 (i + 1)) =
-    c.in_ok-push.ensures.items ∙ ap (λ (front : List ℕ). front ++ c.loop-place.before ∷ []) c.loop-place.invariant.places ∙ ap (λ (n : ℕ). map (seats_listed w p) (range_with_len 0 i) ++ n ∷ []) before
+    let places : c.push_reserved.new.self.items ≡ map (seats_listed w p) (range_with_len 0 (i + 1)) =
+    c.push_reserved.ensures.items ∙ ap (λ (front : List ℕ). front ++ c.loop-place.before ∷ []) c.loop-place.invariant.places ∙ ap (λ (n : ℕ). map (seats_listed w p) (range_with_len 0 i) ++ n ∷ []) before
     ∙ sym (map-range_with_len_more (seats_listed w p) 0 i i (omega arith)) in
     let it = c.proposer_len-count.ensures.instance in
     elim c.if-is_some.branch [
@@ -46,8 +46,8 @@ loop-place-preserved c =
           let s = read_at w p i it c.requires.firsts c.proposer_list-list.ensures on in
           let more : c.loop-place.before + (get_or c.args.firsts.now (r + 1) 0 - get_or c.args.firsts.now r 0) ≡ c.loop-place.before + seat_count w (entry w.proposers p i) =
           ap (λ n. c.loop-place.before + n) (s.count ∙ ap (seat_count w) named) in
-          record { counted = rw b.before-is (rw more (list_more it on (tells ∙ b.if-is_some.true) c.loop-place.invariant.counted)); places = places }
-      | else-is_some b ↦ record { counted = rw b.before-is (list_same it on (tells ∙ b.if-is_some.false) c.loop-place.invariant.counted); places = places }
+          record { counted = rw b.before-is (rw more (list_more it on (tells ∙ b.if-is_some.true) c.loop-place.invariant.counted)); places = places; room = omega (arith, c.push_reserved.ensures.len, c.push_reserved.ensures.capacity, c.loop-place.invariant.room, c.loop-place-test.true) }
+      | else-is_some b ↦ record { counted = rw b.before-is (list_same it on (tells ∙ b.if-is_some.false) c.loop-place.invariant.counted); places = places; room = omega (arith, c.push_reserved.ensures.len, c.push_reserved.ensures.capacity, c.loop-place.invariant.room, c.loop-place-test.true) }
     ]
 
 pub returns : goal.returns
@@ -56,7 +56,7 @@ returns c =
     let p = c.args.p in
     let end : c.loop-place.place ≡ length (row w.proposers p) = omega (arith, c.loop-place-test.false) in
     let before : c.loop-place.before ≡ seats_listed w p c.loop-place.place = c.loop-place.invariant.counted.counted in
-    c.in_ok-push-2.ensures.items ∙ ap (λ (front : List ℕ). front ++ c.loop-place.before ∷ []) c.loop-place.invariant.places
+    c.push_reserved-2.ensures.items ∙ ap (λ (front : List ℕ). front ++ c.loop-place.before ∷ []) c.loop-place.invariant.places
     ∙ ap (λ (n : ℕ). map (seats_listed w p) (range_with_len 0 c.loop-place.place) ++ n ∷ []) before
     ∙ sym (map-range_with_len_more (seats_listed w p) 0 c.loop-place.place c.loop-place.place (omega arith))
     ∙ ap (λ n. map (seats_listed w p) (range_with_len 0 (n + 1))) end

@@ -9,7 +9,7 @@ use Rattle.sm_seats.specs.Tables.{begin_of, seat_places_of, seat_places_at, seat
 use Rattle.sm_seats.proofs.CrossLemmas.{cross_read, crossed_at, lists_back-none, back_more, back_same}
 use Rattle.sm_seats.proofs.TableLemmas.{seat_place_at, seat_row_at, begins_small}
 use Rattle.sm_seats.proofs.reviewer_rows.write_begins.Goals as goal
-use Rattle.sm_seats.proofs.reviewer_rows.write_begins.Goals.{in-Some+in_ok-push, in_default}
+use Rattle.sm_seats.proofs.reviewer_rows.write_begins.Goals.{in-Some, in_default}
 
 pub entry_at-requires-clause-in_range : goal.entry_at-requires-clause-in_range
 entry_at-requires-clause-in_range c =
@@ -48,22 +48,29 @@ loop-place-preserved c =
     let cross = cross_read c.reviewer_crosses-crosses.ensures on c.index-crosses-place.is c.place.ensures in
     let p : ℕ = entry w.reviewers r i in
     let named : get_or c.reviewer_list-list.result.now i 0 ≡ p = ap (λ l. get_or l i 0) e in
-    let before = c.loop-place.invariant in
+    let before = c.loop-place.invariant.kept in
+    let room = c.loop-place.invariant.room in
     let xs : List ℕ = filter (lists_back w.proposers r) (take i (row w.reviewers r)) in
     elim c.match-place.branch [
-      | in-Some+in_ok-push b ↦
+      | in-Some b ↦
           let it = crossed_at c.requires.instance.reviewer_entries on cross b.in-Some.is in
           let more = back_more w.reviewers w.proposers r i on it.passes in
           let there = (c.requires.instance.reviewer_entries.sound r i on).in_range in
           let begin : b.entry_at.result ≡ begin_of w r p =
           b.entry_at.ensures ∙ ap (λ t. table_entry t (get_or c.reviewer_list-list.result.now i 0) b.in-Some.back) c.requires.begins ∙ ap (λ q. table_entry (seat_places_of w) q b.in-Some.back) named
           ∙ seat_place_at w p b.in-Some.back there (omega (arith, it.back, it.mutual_.listed)) ∙ ap (seats_listed w p) (sym it.back) in
-          rw b.kept-is (b.in_ok-push.ensures.items ∙ ap (λ (l : List ℕ). l ++ b.entry_at.result ∷ []) before ∙ ap (λ (n : ℕ). map (begin_of w r) xs ++ n ∷ []) begin
-          ∙ sym (map_push (begin_of w r) xs p) ∙ ap (map (begin_of w r)) (sym more))
+          record {
+            kept = rw b.kept-is (b.push_reserved.ensures.items ∙ ap (λ (l : List ℕ). l ++ b.entry_at.result ∷ []) before ∙ ap (λ (n : ℕ). map (begin_of w r) xs ++ n ∷ []) begin
+                ∙ sym (map_push (begin_of w r) xs p) ∙ ap (map (begin_of w r)) (sym more));
+            room = rw b.kept-is (omega (arith, b.push_reserved.ensures.len, b.push_reserved.ensures.capacity, room, c.loop-place-test.true));
+          }
       | in_default b ↦
           let same = back_same w.reviewers w.proposers r i on (lists_back-none w.reviewers w.proposers r i cross b.in_default.is) in
-          rw b.kept-is (before ∙ ap (map (begin_of w r)) (sym same))
+          record {
+            kept = rw b.kept-is (before ∙ ap (map (begin_of w r)) (sym same));
+            room = rw b.kept-is (omega (arith, room));
+          }
     ]
 
 pub returns-clause-small : goal.returns-clause-small
-returns-clause-small c = begins_small c.requires.instance c.args.r _ c.loop-place.kept.items c.loop-place.invariant
+returns-clause-small c = begins_small c.requires.instance c.args.r _ c.loop-place.kept.items c.loop-place.invariant.kept

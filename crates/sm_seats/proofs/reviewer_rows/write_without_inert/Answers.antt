@@ -4,7 +4,7 @@ use Rattle.sm_agents.specs.Written.{row, entry}
 use Rattle.sm_seats.specs.Mutual.{lists_back}
 use Rattle.sm_seats.proofs.CrossLemmas.{cross_read, lists_back-told, back_more, back_same}
 use Rattle.sm_seats.proofs.reviewer_rows.write_without_inert.Goals as goal
-use Rattle.sm_seats.proofs.reviewer_rows.write_without_inert.Goals.{then-is_some+in_ok-push, else-is_some}
+use Rattle.sm_seats.proofs.reviewer_rows.write_without_inert.Goals.{then-is_some, else-is_some}
 
 pub loop-place-preserved : goal.loop-place-preserved
 loop-place-preserved c =
@@ -17,11 +17,19 @@ loop-place-preserved c =
     let tells = lists_back-told w.proposers r (entry w.reviewers r i) cross c.is_some.ensures in
     let p : ℕ = entry w.reviewers r i in
     let named : get_or c.reviewer_list-list.result.now i 0 ≡ p = ap (λ l. get_or l i 0) e in
-    let before = c.loop-place.invariant in
+    let before = c.loop-place.invariant.kept in
+    let room = c.loop-place.invariant.room in
     let xs : List ℕ = filter (lists_back w.proposers r) (take i (row w.reviewers r)) in
     elim c.if-is_some.branch [
-      | then-is_some+in_ok-push b ↦
-          rw b.kept-is (b.in_ok-push.ensures.items ∙ ap (λ (l : List ℕ). l ++ get_or c.reviewer_list-list.result.now i 0 ∷ []) before ∙ ap (λ (q : ℕ). xs ++ q ∷ []) named
-          ∙ sym (back_more w.reviewers w.proposers r i on (tells ∙ b.if-is_some.true)))
-      | else-is_some b ↦ rw b.kept-is (before ∙ sym (back_same w.reviewers w.proposers r i on (tells ∙ b.if-is_some.false)))
+      | then-is_some b ↦
+          record {
+            kept = rw b.kept-is (b.push_reserved.ensures.items ∙ ap (λ (l : List ℕ). l ++ get_or c.reviewer_list-list.result.now i 0 ∷ []) before ∙ ap (λ (q : ℕ). xs ++ q ∷ []) named
+                ∙ sym (back_more w.reviewers w.proposers r i on (tells ∙ b.if-is_some.true)));
+            room = rw b.kept-is (omega (arith, b.push_reserved.ensures.len, b.push_reserved.ensures.capacity, room, c.loop-place-test.true));
+          }
+      | else-is_some b ↦
+          record {
+            kept = rw b.kept-is (before ∙ sym (back_same w.reviewers w.proposers r i on (tells ∙ b.if-is_some.false)));
+            room = rw b.kept-is (omega (arith, room));
+          }
     ]
