@@ -16,6 +16,7 @@ pub mod TimesLemmas
 pub mod PassedLemmas
 pub mod ReadyLemmas
 pub mod HeapLemmas
+pub mod LowestLemmas
 pub mod AddingLemmas
 pub mod TurnedBackLemmas
 pub mod WrittenLemmas

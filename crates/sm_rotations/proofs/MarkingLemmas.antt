@@ -1,28 +1,21 @@
 -- Collecting what is marked, in a list.
-use Rattle.std.proofs.Common.{◌≡◌, ℕ, ◌+◌, ◌<◌, ◌⊎◌, inl, inr, arith, sym, ap, ◌∙◌, List, [], ◌∷◌, ◌++◌, Option, None, Some}
-use Rattle.std.proofs.lemmas.Option.{same_Some, none-some}
+use Rattle.std.proofs.Common.{◌≡◌, ℕ, ◌+◌, ◌<◌, ◌⊎◌, inl, inr, arith, sym, ap, ◌∙◌, List, Option, Some}
 use Rattle.sm_lists.proofs.Counting.{eq_or_ne}
 use Rattle.sm_theory.specs.Rotations.{proposer_at}
 -- writing and collecting, passed on
-pub use Rattle.sm_theory.proofs.Chains.Marking.{marked_step, adds_none, adds_one, adds_join, adds_like, between_wider, between_split}
+pub use Rattle.sm_theory.proofs.Chains.Marking.{marked_step, adds_join, adds_like, between_wider, between_split}
 use Rattle.sm_rotations.specs.Marking.{note_of, marks_of, IsBetween, Adds}
 use Rattle.sm_rotations.specs.Footings.{footing_at, IsFoundAlong}
 use Rattle.sm_market.specs.declared.footing.Footing.{Footing}
 
--- what is marked at the next place is added
-pub between_some : {marks : List (Option ℕ)} {from to : ℕ} {xs ys : List ℕ} (x : ℕ) → from < to → note_of marks to ≡ Some x → Adds (λ i. IsBetween marks from to i) xs ys → Adds (λ i. IsBetween marks from (to + 1) i) xs (ys ++ x ∷ [])
-between_some {marks} {from} {to} {xs} {ys} x low is a =
-    adds_join (λ i. IsBetween marks from (to + 1) i) a (adds_one (λ i. note_of marks to ≡ Some i) ys x is (λ i e. same_Some _ _ (sym e ∙ is)))
+-- what is marked at the next place, if anything, is added
+pub between_more : {marks : List (Option ℕ)} {from to : ℕ} {mark : Option ℕ} {xs ys zs : List ℕ} → from < to → note_of marks to ≡ mark → Adds (λ i. IsBetween marks from to i) xs ys → Adds (λ i. mark ≡ Some i) ys zs
+    → Adds (λ i. IsBetween marks from (to + 1) i) xs zs
+between_more {marks} {from} {to} {ys = ys} {zs} low is a b =
+    let here : Adds (λ i. note_of marks to ≡ Some i) ys zs = rw is b in
+    adds_join (λ i. IsBetween marks from (to + 1) i) a here
     (λ i w. between_wider w)
     (λ i e. record { place = to; behind = low; before = omega arith; marked = e })
-    between_split
-
--- where nothing is marked there, nothing is added
-pub between_none : {marks : List (Option ℕ)} {from to : ℕ} {xs ys : List ℕ} → note_of marks to ≡ None → Adds (λ i. IsBetween marks from to i) xs ys → Adds (λ i. IsBetween marks from (to + 1) i) xs ys
-between_none {marks} {from} {to} {xs} {ys} is a =
-    adds_join (λ i. IsBetween marks from (to + 1) i) a (adds_none (λ i. note_of marks to ≡ Some i) ys (λ i e. none-some _ (sym is ∙ e)))
-    (λ i w. between_wider w)
-    (λ i e. absurd (none-some _ (sym is ∙ e)))
     between_split
 
 -- what the pairs of a rotation are found to need, pair by pair

@@ -77,10 +77,6 @@ module _ {l : Lists} {first : Places} {rotations : List (List (ℕ × ℕ))} {fo
       pub popped_exposed : IsExposed l (stage l first written (length written)) (rotation_at rotations x.0.1)
       popped_exposed = in_heap_exposed u.market u.chain u.are w.stable w.heap x.0.1 entry.0 stands
 
-      -- the heap's first has a pair
-      pub popped_some : 0 < length (rotation_at rotations x.0.1)
-      popped_some = popped_exposed.not_empty
-
       -- no rotation stands among its followers more often than it has unmet needs
       pub enough_unmet : (j : ℕ) → times (row followers x.0.1) j ≤ slice_index_or unmet j 0
       enough_unmet j = elim (lt_or_le 0 (times (row followers x.0.1) j)) [

@@ -17,6 +17,11 @@ pub record IsLowestPair (rotation : List (ℕ × ℕ)) (i : ℕ) : Type 0 where
   pub inside : i < length rotation
   pub least : (j : ℕ) → j < length rotation → proposer_at rotation i ≤ proposer_at rotation j
 
+-- the lowest-numbered proposers are in these pairs of the first n rotations
+pub record AreLowest (rotations : List (List (ℕ × ℕ))) (n : ℕ) (lows : List ℕ) : Type 0 where
+  pub one_each : length lows ≡ n
+  pub each : (k : ℕ) → k < n → IsLowestPair (rotation_at rotations k) (slice_index_or lows k 0)
+
 -- the same cycle, begun at its lowest-numbered proposer
 pub record IsTurned (rotation turned : List (ℕ × ℕ)) : Type 0 where
   pub from : ℕ

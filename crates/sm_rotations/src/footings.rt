@@ -1,6 +1,6 @@
 //! How those whom a rotation moves stand before it is eliminated, and after it.
 
-ghost use Rattle.std.specs.Prelude.{◌≡◌, ℕ, ◌<◌, length, OnOk};
+ghost use Rattle.std.specs.Prelude.{◌≡◌, ℕ, ◌+◌, ◌<◌, ◌≤◌, [], length, vec_len, vec_capacity, OnOk};
 ghost use Rattle.sm_market.specs.Lists.{IsMarket};
 ghost use Rattle.sm_market.specs.Pairing.{IsPairingOf};
 ghost use Rattle.sm_theory.specs.Rotations.{IsExposed, eliminated};
@@ -53,18 +53,42 @@ fn find_footings(
 {
     before.clear();
     after.clear();
+    before.reserve(pairs.len())?;
+    after.reserve(pairs.len())?;
+    put_footings(market, m, pairs, places, before, after);
+    Ok(())
+}
+
+/// Puts these footings where there is room for them.
+fn put_footings(
+    market: &Market,
+    m: &Pairing,
+    pairs: &[(u32, u32)],
+    places: &[u32],
+    before: &mut Vec<Footing>,
+    after: &mut Vec<Footing>,
+)
+    requires market { IsMarket market.now }
+    requires made { IsPairingOf market.now m.now }
+    requires exposed { IsExposed market.now m.now.places pairs.now }
+    requires places { AreTargetPlaces market.now pairs.now places.now }
+    requires none_before { before.old.items ≡ [] }
+    requires none_after { after.old.items ≡ [] }
+    requires room_before { vec_len before.old + length pairs.now ≤ vec_capacity before.old }
+    requires room_after { vec_len after.old + length pairs.now ≤ vec_capacity after.old }
+    ensures { AreSteps market.now pairs.now before.new.items after.new.items }
+{
     for i in 0..pairs.len() {
         let p = pairs[i].0;
         let target = pairs[next_in(i, pairs.len())].1;
         let place = places[p as usize];
-        before.push(Footing {
+        before.push_reserved(Footing {
             proposer: market.proposer_standing(m, p),
             reviewer: market.reviewer_standing(m, target),
-        })?;
-        after.push(Footing {
+        });
+        after.push_reserved(Footing {
             proposer: place,
             reviewer: market.cross(p, place),
-        })?;
+        });
     }
-    Ok(())
 }

@@ -144,18 +144,8 @@ fn find(
     found.clear();
     for i in 0..pairs.len() {
         let p = pairs[i].0;
-        add_last(last[p as usize], found)?;
+        add(last[p as usize], found)?;
         add_between(marks.at(p), before[i].proposer, after[i].proposer, found)?;
-    }
-    Ok(())
-}
-
-/// Adds the rotation that is noted, if any.
-fn add_last(last: Option<u32>, found: &mut Vec<u32>) -> Result<(), AllocError>
-    ensures { OnOk result (Adds (λ i. last ≡ Some i) found.old.items found.new.items) }
-{
-    if let Some(i) = last {
-        found.push(i)?;
     }
     Ok(())
 }
@@ -168,7 +158,17 @@ fn add_between(marks: &[Mark], from: u32, to: u32, found: &mut Vec<u32>) -> Resu
         found.new.items) }
 {
     for place in from + 1..to {
-        if let Some(i) = marks[place as usize].get() {
+        add(marks[place as usize].get(), found)?;
+    }
+    Ok(())
+}
+
+/// Adds a rotation, if any, unless it was added last: many of a rotation's pairs need the same one.
+fn add(needed: Option<u32>, found: &mut Vec<u32>) -> Result<(), AllocError>
+    ensures { OnOk result (Adds (λ i. needed ≡ Some i) found.old.items found.new.items) }
+{
+    if let Some(i) = needed {
+        if found.last().copied() != needed {
             found.push(i)?;
         }
     }

@@ -8,7 +8,7 @@ ghost use Rattle.sm_market.specs.Pairing.{IsPairingOf};
 ghost use Rattle.sm_theory.specs.Chains.{rotation_at, IsCompleteChain, IsPrintedChain, AreNeeds};
 ghost use Rattle.sm_theory.specs.Values.{rotations_of};
 ghost use Rattle.sm_rotations.specs.Graph.{times, AreFollowers};
-ghost use Rattle.sm_rotations.specs.Ordering.{later_first, IsLowestPair, IsTurned, IsOneMore, AreReadyAtFirst, IsReleased};
+ghost use Rattle.sm_rotations.specs.Ordering.{later_first, IsLowestPair, AreLowest, IsTurned, IsOneMore, AreReadyAtFirst, IsReleased};
 
 use crate::graph::{add_once, counts, lists_with_room};
 use sm_market::{Market, Pairing};
@@ -93,21 +93,37 @@ fn ordered(
     let unmet = unmet.as_mut_slice();
     let mut noted = lists_with_room(alloc, unmet)?;
     let noted = noted.as_mut_slice();
-    let mut ready = ready_at_first(alloc, rotations, unmet)?;
+    let lows = lowest_each(alloc, rotations)?;
+    let lows = lows.as_slice();
+    let mut ready = ready_at_first(alloc, rotations, lows, unmet)?;
     let mut written = Vec::with_capacity(alloc, rotations.len())?;
     let mut needs = Vec::with_capacity(alloc, rotations.len())?;
     'steps: while let Some(Reverse((_, k))) = ready.pop() {
         let number = written.len() as u32;
-        written.push(turned(alloc, &rotations[k as usize].pairs)?)?;
+        written.push(turned(alloc, &rotations[k as usize].pairs, lows[k as usize])?)?;
         needs.push(mem::replace(&mut noted[k as usize], Vec::new(alloc)))?;
         let those = followers[k as usize].as_slice();
         add_once(number, those, noted)?;
-        release(rotations, those, unmet, &mut ready)?;
+        release(rotations, lows, those, unmet, &mut ready)?;
     }
     Ok(Written {
         rotations: written,
         needs,
     })
+}
+
+/// For each rotation the number of the pair that has the lowest-numbered proposer.
+fn lowest_each(alloc: Global, rotations: &[Rotation]) -> Result<Vec<usize>, AllocError>
+    requires { (k : ℕ) → k < length rotations.now → 0
+        < length (rotation_at (rotations_of rotations.now) k) }
+    ensures { IfOk result (λ lows. AreLowest (rotations_of rotations.now) (length rotations.now)
+        lows.items) }
+{
+    let mut lows = Vec::with_capacity(alloc, rotations.len())?;
+    for k in 0..rotations.len() {
+        lows.push(lowest(&rotations[k].pairs))?;
+    }
+    Ok(lows)
 }
 
 /// The number of the pair that has the lowest-numbered proposer.
@@ -124,12 +140,11 @@ fn lowest(pairs: &[(u32, u32)]) -> usize
     best
 }
 
-/// The same cycle, begun at its lowest-numbered proposer.
-fn turned(alloc: Global, pairs: &[(u32, u32)]) -> Result<Rotation, AllocError>
-    requires { 0 < length pairs.now }
+/// The same cycle, begun at its lowest-numbered proposer, which is in the pair `from`.
+fn turned(alloc: Global, pairs: &[(u32, u32)], from: usize) -> Result<Rotation, AllocError>
+    requires { IsLowestPair pairs.now from }
     ensures { IfOk result (λ r. IsTurned pairs.now r.pairs.items) }
 {
-    let from = lowest(pairs);
     let mut turned = Vec::with_capacity(alloc, pairs.len())?;
     turned.extend_from_slice(&pairs[from..])?;
     turned.extend_from_slice(&pairs[..from])?;
@@ -140,12 +155,12 @@ fn turned(alloc: Global, pairs: &[(u32, u32)]) -> Result<Rotation, AllocError>
 fn ready_at_first(
     alloc: Global,
     rotations: &[Rotation],
+    lows: &[usize],
     unmet: &[u32],
 ) -> Result<BinaryHeap<Reverse<(u32, u32)>>, AllocError>
     requires few { length rotations.now < 2 ^ 32 }
     requires one_each { length unmet.now ≡ length rotations.now }
-    requires some { (k : ℕ) → k < length rotations.now → 0
-        < length (rotation_at (rotations_of rotations.now) k) }
+    requires lows { AreLowest (rotations_of rotations.now) (length rotations.now) lows.now }
     ensures order { IfOk result (λ h. IsHeap later_first (heap_items h)) }
     ensures ready { IfOk result (λ h. AreReadyAtFirst (rotations_of rotations.now) unmet.now
         (length rotations.now) (heap_items h)) }
@@ -153,25 +168,31 @@ fn ready_at_first(
     let mut ready = BinaryHeap::new(alloc);
     for k in 0..rotations.len() as u32 {
         if unmet[k as usize] == 0 {
-            add_ready(&rotations[k as usize].pairs, k, &mut ready)?;
+            add_ready(
+                &rotations[k as usize].pairs,
+                lows[k as usize],
+                k,
+                &mut ready,
+            )?;
         }
     }
     Ok(ready)
 }
 
-/// Adds a rotation to those that are ready.
+/// Adds a rotation, whose lowest-numbered proposer is in the pair `low`, to those that are ready.
 fn add_ready(
     pairs: &[(u32, u32)],
+    low: usize,
     k: u32,
     ready: &mut BinaryHeap<Reverse<(u32, u32)>>,
 ) -> Result<(), AllocError>
-    requires some { 0 < length pairs.now }
+    requires lowest { IsLowestPair pairs.now low }
     requires order { IsHeap later_first (heap_items ready.old) }
     ensures order { OnOk result (IsHeap later_first (heap_items ready.new)) }
     ensures added { OnOk result (IsOneMore pairs.now k (heap_items ready.old)
         (heap_items ready.new)) }
 {
-    let p = pairs[lowest(pairs)].0;
+    let p = pairs[low].0;
     ready.push(Reverse((p, k)))?;
     Ok(())
 }
@@ -179,6 +200,7 @@ fn add_ready(
 /// One need less for each of these rotations. Those that have no other become ready.
 fn release(
     rotations: &[Rotation],
+    lows: &[usize],
     followers: &[u32],
     unmet: &mut [u32],
     ready: &mut BinaryHeap<Reverse<(u32, u32)>>,
@@ -186,8 +208,7 @@ fn release(
     requires one_each { length unmet.old ≡ length rotations.now }
     requires in_range { (a : ℕ) → a < length followers.now → slice_index_or followers.now a 0
         < length rotations.now }
-    requires some { (k : ℕ) → k < length rotations.now → 0
-        < length (rotation_at (rotations_of rotations.now) k) }
+    requires lows { AreLowest (rotations_of rotations.now) (length rotations.now) lows.now }
     requires enough { (j : ℕ) → times followers.now j ≤ slice_index_or unmet.old j 0 }
     requires order { IsHeap later_first (heap_items ready.old) }
     ensures one_each { OnOk result (length unmet.new ≡ length unmet.old) }
@@ -198,7 +219,7 @@ fn release(
     for &j in followers {
         unmet[j as usize] -= 1;
         if unmet[j as usize] == 0 {
-            add_ready(&rotations[j as usize].pairs, j, ready)?;
+            add_ready(&rotations[j as usize].pairs, lows[j as usize], j, ready)?;
         }
     }
     Ok(())

@@ -3,7 +3,7 @@
 //! Each proposer's successor is looked for along its list, from where it was looked for before. Reviewers never get worse
 //! partners by an elimination, so that no entry is passed twice.
 
-ghost use Rattle.std.specs.Prelude.{◌≡◌, ◌≢◌, ℕ, ◌-◌, ◌<◌, ◌≤◌, ◌++◌, ◌∷◌, [], length, take, Some, None, true, false, IfOk, OnOk, replicate, slice_index, slice_set};
+ghost use Rattle.std.specs.Prelude.{◌≡◌, ◌≢◌, ℕ, ◌+◌, ◌-◌, ◌<◌, ◌≤◌, ◌++◌, ◌∷◌, [], length, take, Some, None, true, false, IfOk, OnOk, replicate, slice_index, slice_set, vec_len, vec_capacity};
 ghost use Rattle.sm_market.specs.Lists.{place_of, IsMarket};
 ghost use Rattle.sm_market.specs.Matching.{held};
 ghost use Rattle.sm_market.specs.Stable.{IsStable, IsProposersBest};
@@ -212,21 +212,23 @@ impl WalkStack {
         ensures rest { OnOk result (self.new.stack.items ≡ take from self.old.stack.items) }
         ensures finished { self.new.finished ≡ self.old.finished }
     {
-        let pairs = pairs_from(alloc, market, m, from, &self.stack)?;
-        clear_spots(from, &self.stack, &mut self.spots);
+        let mut pairs = Vec::with_capacity(alloc, self.stack.len() - from)?;
+        put_pairs(market, m, from, &self.stack, &mut self.spots, &mut pairs);
         self.stack.truncate(from);
         Ok(Rotation { pairs })
     }
 }
 
-/// The pairs of the proposers on the stack from a spot on.
-fn pairs_from(
-    alloc: Global,
+/// Puts the pairs of the proposers on the stack from a spot on where there is room for them, and notes that these are on the
+/// stack no more.
+fn put_pairs(
     market: &Market,
     m: &Pairing,
     from: usize,
     stack: &[u32],
-) -> Result<Vec<(u32, u32)>, AllocError>
+    spots: &mut [Option<usize>],
+    pairs: &mut Vec<(u32, u32)>,
+)
     requires market { IsMarket market.now }
     requires made { IsPairingOf market.now m.now }
     requires in_range { (k : ℕ) → k < length stack.now → slice_index stack.now k
@@ -234,13 +236,17 @@ fn pairs_from(
     requires matched { (k : ℕ) → from ≤ k → k < length stack.now
         → held m.now.places.proposers (slice_index stack.now k) ≢ None }
     requires from_in { from ≤ length stack.now }
-    ensures { IfOk result (λ pairs. AreStackPairs market.now m.now.places stack.now from pairs.items) }
+    requires spots_each { length spots.old ≡ length market.now.proposers }
+    requires none { pairs.old.items ≡ [] }
+    requires room { vec_len pairs.old + (length stack.now - from) ≤ vec_capacity pairs.old }
+    ensures pairs { AreStackPairs market.now m.now.places stack.now from pairs.new.items }
+    ensures off { AreTakenOff stack.now from spots.old spots.new }
 {
-    let mut pairs = Vec::with_capacity(alloc, stack.len() - from)?;
     for k in from..stack.len() {
-        pairs.push(pair_of(market, m, stack[k]))?;
+        let p = stack[k];
+        pairs.push_reserved(pair_of(market, m, p));
+        spots[p as usize] = None;
     }
-    Ok(pairs)
 }
 
 /// A matched proposer and its partner.
@@ -255,16 +261,4 @@ fn pair_of(market: &Market, m: &Pairing, p: u32) -> (u32, u32)
 {
     let place = m.place(p).unwrap();
     (p, market.reviewer_at(p, place))
-}
-
-/// Notes that the proposers on the stack from a spot on are on it no more.
-fn clear_spots(from: usize, stack: &[u32], spots: &mut [Option<usize>])
-    requires from_in { from ≤ length stack.now }
-    requires in_range { (k : ℕ) → k < length stack.now → slice_index stack.now k
-        < length spots.old }
-    ensures { AreTakenOff stack.now from spots.old spots.new }
-{
-    for k in from..stack.len() {
-        spots[stack[k] as usize] = None;
-    }
 }

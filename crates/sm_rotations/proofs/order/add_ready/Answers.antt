@@ -4,4 +4,4 @@ use Rattle.sm_rotations.proofs.order.add_ready.Goals as goal
 
 pub returns-clause-added : goal.returns-clause-added
 returns-clause-added c = one_more _ _ _ c.in_ok-push.ensures.permutation c.args.pairs.now c.args.k refl
-    (record { pair = c.lowest.result; lowest = c.lowest.ensures; is = refl })
+    (record { pair = c.args.low; lowest = c.requires.lowest; is = refl })

@@ -13,7 +13,7 @@ use Rattle.sm_rotations.proofs.CountLemmas.{few_rotations}
 use Rattle.sm_rotations.proofs.TurnedBackLemmas.{followers_in_range, followers_lower}
 use Rattle.sm_rotations.proofs.ChainingLemmas.{rotations_of-push, few_places}
 use Rattle.sm_rotations.proofs.NeedsLemmas.{as_many}
-use Rattle.sm_rotations.proofs.WrittenLemmas.{nil_of, pairs_at, has_followers, written_start, written_whole, popped_in_range, popped_out, popped_exposed, popped_some, enough_unmet, places_left, next_is, written_more}
+use Rattle.sm_rotations.proofs.WrittenLemmas.{nil_of, pairs_at, has_followers, written_start, written_whole, popped_in_range, popped_out, popped_exposed, enough_unmet, places_left, next_is, written_more}
 use Rattle.sm_rotations.proofs.RenumberLemmas.{renumbered_start, lower_still, renumbered_more, needs_written}
 use Rattle.sm_rotations.proofs.order.ordered.Goals as goal
 
@@ -71,7 +71,7 @@ turned-requires c =
     let popped = c.in-Some.ensures.permutation in
     let inside : c.in-Some.field-0.0.1 < length c.args.rotations.now = omega (arith, popped_in_range u w x popped, as_many c.args.rotations.now) in
     let pairs : c.deref.result.now ≡ rotation_at (rotations_of c.args.rotations.now) c.in-Some.field-0.0.1 = c.deref.ensures.value ∙ pairs_at c.args.rotations.now c.in-Some.field-0.0.1 c.index-rotations-k.result inside in
-    rw pairs (popped_some u w x popped)
+    rw (pairs, c.as_slice-lows.ensures.value) (c.in_ok-lows.ensures.each c.in-Some.field-0.0.1 inside)
 
 pub bounds-noted-k : goal.bounds-noted-k
 bounds-noted-k c =
@@ -123,10 +123,19 @@ release-requires-clause-in_range c =
     let those : c.as_slice-those.result.now ≡ row (rows_of c.args.followers.now) c.in-Some.field-0.0.1 = row_read c.args.followers.now c.in-Some.field-0.0.1 c.index-followers-k.result c.as_slice-those.result.now there c.index-followers-k.is c.as_slice-those.ensures.value in
     rw those (λ a less. omega (arith, followers_lower u.are c.in-Some.field-0.0.1 a less, as_many c.args.rotations.now))
 
-pub release-requires-clause-some : goal.release-requires-clause-some
-release-requires-clause-some c =
+pub lowest_each-requires : goal.lowest_each-requires
+lowest_each-requires c =
     let u = has_followers c.args.rotations.now c.args.followers.now c.proposers.ensures.market c.requires.complete c.requires.followers in
     λ k g. (u.chain.exposed k (omega (arith, g, as_many c.args.rotations.now))).not_empty
+
+pub bounds-lows-k : goal.bounds-lows-k
+bounds-lows-k c =
+    let u = has_followers c.args.rotations.now c.args.followers.now c.proposers.ensures.market c.requires.complete c.requires.followers in
+    let w = c.steps.invariant.written in
+    let x = c.in-Some.field-0 in
+    let popped = c.in-Some.ensures.permutation in
+    let long : length c.as_slice-lows.result.now ≡ length c.args.rotations.now = ap length c.as_slice-lows.ensures.value ∙ c.in_ok-lows.ensures.one_each in
+    omega (arith, popped_in_range u w x popped, as_many c.args.rotations.now, long)
 
 pub release-requires-clause-enough : goal.release-requires-clause-enough
 release-requires-clause-enough c =

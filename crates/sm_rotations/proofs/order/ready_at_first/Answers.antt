@@ -7,10 +7,10 @@ use Rattle.sm_rotations.proofs.WrittenLemmas.{pairs_at}
 use Rattle.sm_rotations.proofs.order.ready_at_first.Goals.{then-unmet-k-eq0+in_ok-add_ready, else-unmet-k-eq0}
 use Rattle.sm_rotations.proofs.order.ready_at_first.Goals as goal
 
-pub add_ready-requires-clause-some : goal.add_ready-requires-clause-some
-add_ready-requires-clause-some c =
+pub add_ready-requires-clause-lowest : goal.add_ready-requires-clause-lowest
+add_ready-requires-clause-lowest c =
     let read : c.deref.result.now ≡ rotation_at (rotations_of c.args.rotations.now) c.loop-k.k = c.deref.ensures.value ∙ pairs_at c.args.rotations.now c.loop-k.k c.index-rotations-k.result c.loop-k-test.true in
-    rw read (c.requires.some c.loop-k.k c.loop-k-test.true)
+    rw read (c.requires.lows.each c.loop-k.k c.loop-k-test.true)
 
 pub loop-k-preserved : goal.loop-k-preserved
 loop-k-preserved c =

@@ -14,12 +14,12 @@ overflow_sub-unmet c =
     let in_range = c.requires.in_range c.loop-j.j-index c.loop-j-test.true in
     some_unmet c.args.followers.now _ _ c.loop-j-test.true refl (omega (arith, c.loop-j.auto.unmet, c.requires.one_each)) c.loop-j.invariant.released (c.requires.enough j)
 
-pub add_ready-requires-clause-some : goal.add_ready-requires-clause-some
-add_ready-requires-clause-some c =
+pub add_ready-requires-clause-lowest : goal.add_ready-requires-clause-lowest
+add_ready-requires-clause-lowest c =
     let j : ℕ = slice_index_or c.args.followers.now c.loop-j.j-index 0 in
     let in_range = c.requires.in_range c.loop-j.j-index c.loop-j-test.true in
     let read : c.deref.result.now ≡ rotation_at (rotations_of c.args.rotations.now) j = c.deref.ensures.value ∙ pairs_at c.args.rotations.now j c.index-rotations-j.result in_range in
-    rw read (c.requires.some j in_range)
+    rw read (c.requires.lows.each j in_range)
 
 pub loop-j-preserved : goal.loop-j-preserved
 loop-j-preserved c =

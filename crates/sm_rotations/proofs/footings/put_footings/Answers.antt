@@ -4,7 +4,7 @@ use Rattle.sm_market.specs.Matching.{standing}
 use Rattle.sm_theory.specs.Rotations.{proposer_at, reviewer_at, target_at}
 use Rattle.sm_lists.proofs.PlaceLemmas.{entry-place_of}
 use Rattle.sm_rotations.proofs.FootingLemmas.{proposer_in, target_in, footings_more, moves_to, rises_to}
-use Rattle.sm_rotations.proofs.footings.find_footings.Goals as goal
+use Rattle.sm_rotations.proofs.footings.put_footings.Goals as goal
 
 pub bounds-places-p : goal.bounds-places-p
 bounds-places-p c = omega (arith, proposer_in c.requires.market c.requires.made.matching c.requires.exposed c.loop-i.i c.loop-i-test.true, c.requires.places.one_each)
@@ -36,16 +36,18 @@ loop-i-preserved c =
     let there : entry c.args.market.now.proposers (proposer_at c.args.pairs.now c.loop-i.i) (slice_index c.args.places.now (proposer_at c.args.pairs.now c.loop-i.i)) ≡ target_at c.args.pairs.now c.loop-i.i =
     ap (entry c.args.market.now.proposers (proposer_at c.args.pairs.now c.loop-i.i)) place ∙ entry-place_of c.args.market.now.proposers (proposer_at c.args.pairs.now c.loop-i.i) (target_at c.args.pairs.now c.loop-i.i) (x.next c.loop-i.i a).on_list in
     record {
-      before_are = rw c.in_ok-push.ensures.items
+      before_are = rw c.push_reserved.ensures.items
           (footings_more (record { proposer = c.proposer_standing.result; reviewer = c.reviewer_standing.result })
           c.proposer_standing.ensures.standing
           (c.reviewer_standing.ensures.standing ∙ ap (standing c.args.market.now.reviewers c.args.m.now.places.reviewers) target)
           c.loop-i.invariant.before_are);
-      after_are = rw c.in_ok-push-2.ensures.items
+      after_are = rw c.push_reserved-in-loop-i.ensures.items
           (footings_more (record { proposer = slice_index c.args.places.now (proposer_at c.args.pairs.now c.loop-i.i); reviewer = c.cross.result })
           (place ∙ sym (moves_to h f x c.loop-i.i a))
           (c.cross.ensures.place ∙ ap (λ r. place_of c.args.market.now.reviewers r (proposer_at c.args.pairs.now c.loop-i.i)) there ∙ sym (rises_to h f x c.loop-i.i a))
           c.loop-i.invariant.after_are);
+      room_before = omega (arith, c.push_reserved.ensures.len, c.push_reserved.ensures.capacity, c.loop-i.invariant.room_before);
+      room_after = omega (arith, c.push_reserved-in-loop-i.ensures.len, c.push_reserved-in-loop-i.ensures.capacity, c.loop-i.invariant.room_after);
     }
 
 pub returns : goal.returns
