@@ -15,7 +15,7 @@ use Rattle.sm_agents.specs.declared.kinds.Side.TheVariants.{Proposers, Reviewers
 use Rattle.sm_agents.specs.Named.{SaidAgent, entries_of, entries_of_masters}
 use Rattle.sm_keys.specs.Tables.{has_repeated, Table, text_at, Extends, AreBelow}
 use Rattle.sm_reader.specs.Judging.{with_agent}
-use Rattle.sm_reader.specs.Draft.{listed_table, listed_side, agent_in, master_in, said_of, AreAgentsBelow, IsDraft, limit_fault, name_fault, DeclaresOn, ListsOn, PutsOn, AddsAgent}
+use Rattle.sm_reader.specs.Draft.{listed_table, listed_side, agent_in, masters_in, said_of, AreAgentsBelow, IsDraft, limit_fault, name_fault, DeclaresOn, ListsOn, PutsOn, AddsAgent}
 use Rattle.sm_reader.specs.declared.draft.Declared.{Declared}
 use Rattle.sm_reader.specs.declared.draft.Draft.{Draft}
 use Rattle.sm_keys.proofs.ListingLemmas.{extends_long, extends_twice}
@@ -65,7 +65,7 @@ module _ (kind : Kind) (line : ℕ) (d : Draft) (pn rn : Table) (draft : IsDraft
 
   -- the count of the entries of master lists
   abbrev pub shared : ℕ
-  shared = entries_of_masters (map master_in d.masters.entries)
+  shared = entries_of_masters (masters_in d)
 
   -- a draft with other agents
   abbrev pub with_agents : Vec Declared Global → Vec Declared Global → ℕ → Draft
@@ -80,8 +80,8 @@ module _ (kind : Kind) (line : ℕ) (d : Draft) (pn rn : Table) (draft : IsDraft
   pub draft_with_agents : (ps rs : Vec Declared Global) (n : ℕ) → pn.declared ≡ map (λ (x : Declared). x.name.now) ps.items → rn.declared ≡ map (λ (x : Declared). x.name.now) rs.items
       → AreAgentsBelow (length (listed_table kind pn rn).texts) ps.items → AreAgentsBelow (length pn.texts) rs.items
       → n ≡ entries_of (map (agent_in (listed_table kind pn rn).texts) ps.items) + entries_of (map (agent_in pn.texts) rs.items) + shared
-      → n ≤ most_entries → length ps.items ≤ most_agents → length rs.items ≤ most_agents → IsDraft kind (line + 1) (with_agents ps rs n)
-  draft_with_agents ps rs n named_ps named_rs below_ps below_rs counted few few_ps few_rs =
+      → d.entries ≤ n → n ≤ most_entries → length ps.items ≤ most_agents → length rs.items ≤ most_agents → IsDraft kind (line + 1) (with_agents ps rs n)
+  draft_with_agents ps rs n named_ps named_rs below_ps below_rs counted more few few_ps few_rs =
       record {
         proposers_declared = named_ps;
         reviewers_declared = named_rs;
@@ -95,6 +95,7 @@ module _ (kind : Kind) (line : ℕ) (d : Draft) (pn rn : Table) (draft : IsDraft
         reviewers_fresh = grown.r_fresh;
         few = omega (arith, draft.few);
         masters = draft.masters;
+        on_masters_fit = omega (arith, draft.on_masters_fit, more);
       }
 
   -- an agent is added, behind those of its side
@@ -117,7 +118,7 @@ module _ (kind : Kind) (line : ℕ) (d : Draft) (pn rn : Table) (draft : IsDraft
               (agents_below_more (length p) (length pn.texts) d.reviewers.items (extends_long p pn.texts grown.p_more) draft.reviewers_in)
               (sum_left (entries_of (map (agent_in old) ds)) (entries_of (map (agent_in p) d.reviewers.items)) _ _ draft.counted
               (pushed_entries old new listed_now ds v.items draft.proposers_in agent below pushed) (ap entries_of others))
-              (omega arith) (omega (arith, ap length pushed, length_push ds agent)) draft.reviewers_fit,
+              (omega arith) (omega arith) (omega (arith, ap length pushed, length_push ds agent)) draft.reviewers_fit,
         )
       where
         sum_left : (a b t u : ℕ) → d.entries ≡ a + b + shared → t ≡ a + length agent.entries.items → u ≡ b → n ≡ t + u + shared
@@ -141,7 +142,7 @@ module _ (kind : Kind) (line : ℕ) (d : Draft) (pn rn : Table) (draft : IsDraft
               (pushed_below p pn.texts grown.p_more ds v.items draft.reviewers_in agent below pushed)
               (sum_right (entries_of (map (agent_in old) d.proposers.items)) (entries_of (map (agent_in p) ds)) _ _ draft.counted
               (ap entries_of others) (pushed_entries p pn.texts grown.p_more ds v.items draft.reviewers_in agent below pushed))
-              (omega arith) draft.proposers_fit (omega (arith, ap length pushed, length_push ds agent)),
+              (omega arith) (omega arith) draft.proposers_fit (omega (arith, ap length pushed, length_push ds agent)),
         )
       where
         sum_right : (a b t u : ℕ) → d.entries ≡ a + b + shared → t ≡ a → u ≡ b + length agent.entries.items → n ≡ t + u + shared

@@ -1,11 +1,11 @@
 -- Drafts whose tables grow.
-use Rattle.std.proofs.Common.{◌≡◌, ℕ, ◌+◌, ◌≤◌, List, [], ◌∷◌, ◌++◌, length, map, Option, All, refl, sym, ap, ◌∙◌, subst, arith}
+use Rattle.std.proofs.Common.{◌≡◌, ℕ, ◌+◌, ◌≤◌, List, [], ◌∷◌, ◌++◌, length, map, Option, refl, sym, ap, ◌∙◌, subst, arith}
 use Rattle.sm_agents.specs.declared.kinds.Kind.{Kind}
 use Rattle.sm_agents.specs.declared.kinds.Kind.TheVariants.{Marriage, Hospitals, Roommates}
 use Rattle.sm_agents.specs.Named.{SaidAgent, SaidPair, SaidWeight, SaidMaster, SaidOrder, Said, entries_of, entries_of_masters}
 use Rattle.sm_keys.specs.Tables.{Table, Extends, AreBelow}
 use Rattle.sm_text.specs.Limits.{most_entries}
-use Rattle.sm_reader.specs.Draft.{listed_table, agent_in, master_in, said_of, HasNames, AreAgentsBelow, IsDraft}
+use Rattle.sm_reader.specs.Draft.{listed_table, agent_in, masters_in, said_of, HasMasters, AreAgentsBelow, IsDraft}
 use Rattle.sm_reader.specs.declared.draft.Declared.{Declared}
 use Rattle.sm_reader.specs.declared.draft.Draft.{Draft}
 use Rattle.sm_keys.proofs.ListingLemmas.{below_more, texts_kept}
@@ -49,12 +49,12 @@ module _ (kind : Kind) (d : Draft) (pn rn : Table) (more_p : Extends d.proposer_
 
 -- a draft that says more of pairs, master lists or an order, where these meet what is asked before the next line
 pub draft_more : (kind : Kind) (line : ℕ) (d e : Draft) → IsDraft kind line d
-    → e ≡ record d { entries = e.entries; weights = e.weights; forced = e.forced; forbidden = e.forbidden; masters = e.masters; order = e.order }
-    → e.entries ≡ entries_of (said_of kind d).proposers + entries_of (said_of kind d).reviewers + entries_of_masters (map master_in e.masters.entries) → e.entries ≤ most_entries
+    → e ≡ record d { entries = e.entries; weights = e.weights; forced = e.forced; forbidden = e.forbidden; masters = e.masters; on_masters = e.on_masters; order = e.order }
+    → e.entries ≡ entries_of (said_of kind d).proposers + entries_of (said_of kind d).reviewers + entries_of_masters (masters_in e) → e.entries ≤ most_entries
     → length e.weights.entries + length e.forced.items + length e.forbidden.items ≤ length d.weights.entries + length d.forced.items + length d.forbidden.items + 1
-    → All HasNames e.masters.entries → IsDraft kind (line + 1) e
-draft_more kind line d e draft changes counted fits count masters =
-    let one : Draft = record d { entries = e.entries; weights = e.weights; forced = e.forced; forbidden = e.forbidden; masters = e.masters; order = e.order } in
+    → HasMasters e → length e.on_masters.items ≤ e.entries → IsDraft kind (line + 1) e
+draft_more kind line d e draft changes counted fits count masters on_masters_fit =
+    let one : Draft = record d { entries = e.entries; weights = e.weights; forced = e.forced; forbidden = e.forbidden; masters = e.masters; on_masters = e.on_masters; order = e.order } in
     let is : IsDraft kind (line + 1) one = record {
       proposers_declared = draft.proposers_declared;
       reviewers_declared = draft.reviewers_declared;
@@ -68,9 +68,10 @@ draft_more kind line d e draft changes counted fits count masters =
       reviewers_fresh = λ k. omega (arith, draft.reviewers_fresh k);
       few = omega (arith, draft.few, count);
       masters = masters;
+      on_masters_fit = on_masters_fit;
     } in
     subst (IsDraft kind (line + 1)) (sym changes) is
 
 -- a line that says nothing
 pub draft_later : (kind : Kind) (line : ℕ) (d : Draft) → IsDraft kind line d → IsDraft kind (line + 1) d
-draft_later kind line d draft = draft_more kind line d d draft refl draft.counted draft.entries_fit (omega arith) draft.masters
+draft_later kind line d draft = draft_more kind line d d draft refl draft.counted draft.entries_fit (omega arith) draft.masters draft.on_masters_fit

@@ -21,7 +21,7 @@ use Rattle.sm_keys.proofs.RunLemmas.{run_no_bad}
 use Rattle.sm_keys.proofs.WholeLemmas.{and_left, and_right}
 use Rattle.sm_reader.specs.Forms.{Form, declares, list_form, reviewer_form, two_sided_form, form_behind, form_under, has_two_sides, is_end}
 use Rattle.sm_reader.specs.Judging.{goes, verdict_on, of_form}
-use Rattle.sm_reader.specs.Draft.{listed_table, agent_in, master_in, said_of, table_on, declared_on, listed_side, ChangesNames, IsDraft, AddsAgent, AreRunsRight, IsLineFault, IsRefusedBy, JudgesTokens, DeclaresOn, ListsOn, limit_fault, name_fault}
+use Rattle.sm_reader.specs.Draft.{listed_table, agent_in, masters_in, said_of, table_on, declared_on, listed_side, ChangesNames, IsDraft, AddsAgent, AreRunsRight, IsLineFault, IsRefusedBy, JudgesTokens, DeclaresOn, ListsOn, limit_fault, name_fault}
 use Rattle.sm_reader.specs.Listed.{side_by, DeclaresSide, IsAgentLine, ListsOnLine, AddsNamesOn, ListsLineOn, PutsDeclared, IsPutFault, KeepsSaid, AddsAgentLine, AddsLine, IsAgentFault}
 use Rattle.sm_reader.specs.declared.draft.Declared.{Declared}
 use Rattle.sm_reader.specs.declared.draft.Draft.{Draft}
@@ -133,9 +133,9 @@ module _ (kind : Kind) (line : ℕ) (d : Draft) (pn rn : Table) (draft : IsDraft
       (agents_below_more (length old) (length new) d.proposers.items (extends_long old new (listed_more kind d pn rn p_more r_more)) draft.proposers_in)
       (agents_below_more (length d.proposer_names.texts) (length pn.texts) d.reviewers.items (extends_long d.proposer_names.texts pn.texts p_more) draft.reviewers_in)
       (draft.counted ∙ counts _ _ _ _ (ap entries_of proposers_same) (ap entries_of reviewers_same))
-      draft.entries_fit draft.proposers_fit draft.reviewers_fit
+      (omega arith) draft.entries_fit draft.proposers_fit draft.reviewers_fit
     where
-      counts : (a b t u : ℕ) → t ≡ a → u ≡ b → a + b + entries_of_masters (map master_in d.masters.entries) ≡ t + u + entries_of_masters (map master_in d.masters.entries)
+      counts : (a b t u : ℕ) → t ≡ a → u ≡ b → a + b + entries_of_masters (masters_in d) ≡ t + u + entries_of_masters (masters_in d)
       counts a b t u e f = omega arith
 
   kept : KeepsSaid kind line d renamed
@@ -154,6 +154,7 @@ module _ (kind : Kind) (line : ℕ) (d : Draft) (pn rn : Table) (draft : IsDraft
       reviewers_fresh = r_fresh;
       few = draft.few;
       masters = later.masters;
+      on_masters_fit = later.on_masters_fit;
     };
   }
 

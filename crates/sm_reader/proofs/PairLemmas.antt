@@ -1,5 +1,5 @@
 -- What lines of pairs add to a draft, and what the faults of lines are to a draft.
-use Rattle.std.proofs.Common.{◌≡◌, ℕ, ◌+◌, ◌≤◌, ◌&&◌, ◌||◌, Bool, true, false, cond, List, [], ◌∷◌, ◌++◌, length, map, Option, Some, None, refl, sym, ap, ◌∙◌, subst, arith, is_none, is_some, unwrap_or, pos, All}
+use Rattle.std.proofs.Common.{◌≡◌, ℕ, ◌+◌, ◌≤◌, ◌&&◌, ◌||◌, Bool, true, false, cond, List, [], ◌∷◌, ◌++◌, length, map, Option, Some, None, refl, sym, ap, ◌∙◌, subst, arith, is_none, is_some, unwrap_or, pos}
 use Rattle.std.specs.List.{list_any, list_all}
 use Rattle.std.specs.Map.{lookup}
 use Rattle.std.specs.Option.{option_or}
@@ -17,7 +17,7 @@ use Rattle.sm_reader.specs.Forms.{declares, weighs, binds}
 use Rattle.sm_reader.specs.Judging.{fault_of, said_with, with_agent, weight_in, second_in, weight_of}
 use Rattle.sm_keys.specs.Keys.{spelled}
 use Rattle.sm_keys.specs.declared.text_key.TextKey.{TextKey}
-use Rattle.sm_reader.specs.Draft.{listed_table, agent_in, pair_in, given_in, master_in, said_of, HasNames, IsDraft, AddsForm, AddsAgent, AreRunsRight, IsLineFault, RefusesFor, run_fault, name_fault, weight_fault, AreSpelled, table_on, declared_on, PutsWeight, Binds}
+use Rattle.sm_reader.specs.Draft.{listed_table, agent_in, pair_in, given_in, masters_in, said_of, HasMasters, IsDraft, AddsForm, AddsAgent, AreRunsRight, IsLineFault, RefusesFor, run_fault, name_fault, weight_fault, AreSpelled, table_on, declared_on, PutsWeight, Binds}
 use Rattle.sm_reader.specs.declared.draft.Declared.{Declared}
 use Rattle.sm_reader.specs.declared.draft.Weights.{Weights}
 use Rattle.sm_reader.specs.declared.draft.Draft.{Draft}
@@ -32,12 +32,13 @@ draft_with_pairs : (kind : Kind) (line : ℕ) (d e : Draft) → IsDraft kind lin
     → IsDraft kind (line + 1) e
 draft_with_pairs kind line d e draft changes count =
     draft_more kind line d e draft
-    (changes ∙ ap (λ (x : Draft). record d { entries = x.entries; weights = e.weights; forced = e.forced; forbidden = e.forbidden; masters = x.masters; order = x.order }) (sym changes))
+    (changes ∙ ap (λ (x : Draft). record d { entries = x.entries; weights = e.weights; forced = e.forced; forbidden = e.forbidden; masters = x.masters; on_masters = x.on_masters; order = x.order }) (sym changes))
     (ap (λ (x : Draft). x.entries) changes ∙ draft.counted
-    ∙ ap (λ (x : Draft). entries_of (said_of kind d).proposers + entries_of (said_of kind d).reviewers + entries_of_masters (map master_in x.masters.entries)) (sym changes))
+    ∙ ap (λ (x : Draft). entries_of (said_of kind d).proposers + entries_of (said_of kind d).reviewers + entries_of_masters (masters_in x)) (sym changes))
     (omega (arith, draft.entries_fit, ap (λ (x : Draft). x.entries) changes))
     count
-    (subst (λ (x : Draft). All HasNames x.masters.entries) (sym changes) draft.masters)
+    (subst HasMasters (sym changes) draft.masters)
+    (subst (λ (x : Draft). length x.on_masters.items ≤ x.entries) (sym changes) draft.on_masters_fit)
 
 -- a condition is added
 pub condition_added : (kind : Kind) (line : ℕ) (d new : Draft) (condition : Condition) (proposer reviewer : List ℕ) → IsDraft kind line d → Binds condition d new proposer reviewer line

@@ -1,5 +1,5 @@
 -- What a `Draft` says, what it has to meet, and what a line does to it.
-use Rattle.std.specs.Prelude.{◌≡◌, ℕ, ◌+◌, ◌<◌, ◌≤◌, ◌||◌, true, false, List, [], ◌∷◌, ◌++◌, length, map, drop, Bool, Option, Some, None, is_none, slice_index, unwrap_or, All, Vec}
+use Rattle.std.specs.Prelude.{◌≡◌, ℕ, ◌+◌, ◌<◌, ◌≤◌, ◌||◌, true, false, List, [], ◌∷◌, ◌++◌, length, map, drop, Bool, Option, Some, None, is_none, slice_index, slice_range, unwrap_or, All}
 use Rattle.std.specs.List.{list_any, list_all}
 use Rattle.std.specs.Option.{option_map, option_and_then}
 use Rattle.std.specs.Str.{bytes_eq}
@@ -7,8 +7,6 @@ use Rattle.sm_text.specs.Limits.{most_agents, most_entries}
 use Rattle.sm_text.specs.Name.{is_name}
 use Rattle.sm_text.specs.declared.refusal.RefusalKind.{RefusalKind}
 use Rattle.sm_text.specs.declared.refusal.RefusalKind.TheVariants.{RepeatedEntry}
-use Rattle.std.specs.Borrow.{Bor}
-use Rattle.std.specs.declared.alloc.Global.{Global}
 use Rattle.sm_agents.specs.declared.kinds.Kind.{Kind}
 use Rattle.sm_agents.specs.declared.kinds.Kind.TheVariants.{Marriage, Hospitals, Roommates}
 use Rattle.sm_agents.specs.declared.kinds.Side.{Side}
@@ -22,6 +20,7 @@ use Rattle.sm_text.specs.Slices.{texts_of}
 use Rattle.sm_reader.specs.declared.draft.Declared.{Declared}
 use Rattle.sm_reader.specs.declared.draft.Pair.{Pair}
 use Rattle.sm_reader.specs.declared.draft.Weights.{Weights}
+use Rattle.sm_reader.specs.declared.draft.MasterList.{MasterList}
 use Rattle.sm_keys.specs.Keys.{spelled}
 use Rattle.sm_keys.specs.declared.text_key.TextKey.{TextKey}
 use Rattle.sm_reader.specs.declared.draft.Order.{Order}
@@ -81,9 +80,17 @@ pair_in x = record { proposer = x.proposer.now; reviewer = x.reviewer.now; line 
 abbrev pub given_in : (TextKey × TextKey) × Weights → SaidWeight
 given_in x = record { pair = record { proposer = spelled x.0.0; reviewer = spelled x.0.1; line = x.1.line }; weight = x.1.weight; second = x.1.second }
 
+-- the names on a master list, among those on all
+abbrev pub names_on : List (List ℕ) → MasterList → List (List ℕ)
+names_on all list = slice_range all list.start list.stop
+
 -- a master list with its name
-abbrev pub master_in : TextKey × Vec (Bor (List ℕ)) Global → SaidMaster
-master_in m = record { name = spelled m.0; entries = texts_of m.1.items }
+abbrev pub master_in : List (List ℕ) → TextKey × MasterList → SaidMaster
+master_in all m = record { name = spelled m.0; entries = names_on all m.1 }
+
+-- the master lists of a draft
+abbrev pub masters_in : Draft → List SaidMaster
+masters_in d = map (master_in (texts_of d.on_masters.items)) d.masters.entries
 
 -- an order: the names stand behind the first token of its line
 abbrev pub order_of : Order → SaidOrder
@@ -98,21 +105,26 @@ said_of kind d =
       weights = map given_in d.weights.entries;
       forced = map pair_in d.forced.items;
       forbidden = map pair_in d.forbidden.items;
-      masters = map master_in d.masters.entries;
+      masters = masters_in d;
       order = option_map order_of d.order;
     }
 
--- all indexes of lists and of pairs are in range
+-- all indexes on lists are in range
 abbrev pub AreAgentsBelow : ℕ → List Declared → Type 0
 AreAgentsBelow n [] = Unit {0}
 AreAgentsBelow n (a ∷ agents) = AreBelow n a.entries.items × AreAgentsBelow n agents
 
--- every name on a master list is a name
-abbrev pub HasNames : TextKey × Vec (Bor (List ℕ)) Global → Type 0
-HasNames m = list_all is_name (texts_of m.1.items) ≡ true
+-- the names on a master list stand among those on all, and every one is a name
+abbrev pub HasNames : List (List ℕ) → MasterList → Type 0
+HasNames all list = (list.start ≤ list.stop) × (list.stop ≤ length all) × (list_all is_name (names_on all list) ≡ true)
+
+-- so it is for each master list of a draft
+abbrev pub HasMasters : Draft → Type 0
+HasMasters d = All (λ (m : TextKey × MasterList). HasNames (texts_of d.on_masters.items) m.1) d.masters.entries
 
 -- Before the line of a number a draft has the declared agents' names in their tables, all indexes in range, and its entries counted.
--- Limits are kept, and no name has the stamp of this line. There are fewer pairs than lines, and the names on master lists are names.
+-- Limits are kept, and no name has the stamp of this line. There are fewer pairs than lines, and the names on master lists are names, no
+-- more than there are entries.
 pub record IsDraft (kind : Kind) (line : ℕ) (d : Draft) : Type 0 where
   pub proposers_declared : d.proposer_names.declared ≡ map (λ (a : Declared). a.name.now) d.proposers.items
   pub reviewers_declared : d.reviewer_names.declared ≡ map (λ (a : Declared). a.name.now) d.reviewers.items
@@ -125,7 +137,8 @@ pub record IsDraft (kind : Kind) (line : ℕ) (d : Draft) : Type 0 where
   pub proposers_fresh : (k : ℕ) → slice_index d.proposer_names.stamps k < line
   pub reviewers_fresh : (k : ℕ) → slice_index d.reviewer_names.stamps k < line
   pub few : length d.weights.entries + length d.forced.items + length d.forbidden.items + 1 < line
-  pub masters : All HasNames d.masters.entries
+  pub masters : HasMasters d
+  pub on_masters_fit : length d.on_masters.items ≤ d.entries
 
 -- a line is refused for this fault, if there is one; want of memory says nothing
 abbrev pub IsLineFault : Option RefusalKind → ℕ → TextFault → Type 0
@@ -322,19 +335,23 @@ runs_form agent = declares agent.side agent.name.now (option_map (λ x. x.now) a
 
 -- a master list that stands above, with the names on it
 pub record IsMaster (d : Draft) (master : List ℕ) (entries : List (List ℕ)) : Type 0 where
-  pub found : entries_named (map master_in d.masters.entries) master ≡ Some entries
+  pub found : entries_named (masters_in d) master ≡ Some entries
   pub are_names : AreNamesAtEnd (length entries) entries
 
 -- the names of the master lists
 abbrev pub masters_declared : Draft → List (List ℕ)
-masters_declared d = master_names (map master_in d.masters.entries)
+masters_declared d = master_names (masters_in d)
 
--- a master list stands behind the others
+-- a master list stands behind the others, and its names behind theirs
 pub record PutsMaster (old new : Draft) (name : List ℕ) (entries : List (List ℕ)) : Type 0 where
-  pub master : TextKey × Vec (Bor (List ℕ)) Global
+  pub key : TextKey
+  pub list : MasterList
   pub faultless : master_fault (masters_declared old) name entries old.entries ≡ None
-  pub is : master_in master ≡ record { name = name; entries = entries }
+  pub spells : spelled key ≡ name
+  pub starts : list.start ≡ length old.on_masters.items
+  pub stops : list.stop ≡ length new.on_masters.items
   pub fits : old.entries + length entries ≤ most_entries
-  pub masters : new.masters.entries ≡ old.masters.entries ++ master ∷ []
+  pub masters : new.masters.entries ≡ old.masters.entries ++ (key, list) ∷ []
+  pub names : texts_of new.on_masters.items ≡ texts_of old.on_masters.items ++ entries
   pub entries_more : new.entries ≡ old.entries + length entries
-  pub changes : new ≡ record old { masters = new.masters; entries = new.entries }
+  pub changes : new ≡ record old { masters = new.masters; on_masters = new.on_masters; entries = new.entries }

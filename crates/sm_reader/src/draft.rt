@@ -41,8 +41,16 @@ pub(crate) struct Weights {
 /// The weights, by their pairs, in the order of their lines.
 pub(crate) type Weighed<'a> = IndexMap<(TextKey<'a>, TextKey<'a>), Weights, TextHash>;
 
-/// The names on each master list, by the name of the list, in the order of their lines.
-pub(crate) type Masters<'a> = IndexMap<TextKey<'a>, Vec<&'a [u8]>, TextHash>;
+/// Where the names on a master list stand among those on all of them. A text may have over a million master lists, so one takes
+/// eight bytes, and no memory of its own.
+#[derive(Clone, Copy)]
+pub(crate) struct MasterList {
+    pub(crate) start: u32,
+    pub(crate) stop: u32,
+}
+
+/// The master lists, by their names, in the order of their lines.
+pub(crate) type Masters<'a> = IndexMap<TextKey<'a>, MasterList, TextHash>;
 
 /// The proposers that come first, as a line says it: their names stand behind the first token of the line.
 #[derive(Drop)]
@@ -69,6 +77,8 @@ pub(crate) struct Draft<'a> {
     pub(crate) forbidden: Vec<Pair<'a>>,
     /// The first one is put by hashes of the text.
     pub(crate) masters: Masters<'a>,
+    /// The names on all master lists, one list behind another.
+    pub(crate) on_masters: Vec<&'a [u8]>,
     pub(crate) order: Option<Order<'a>>,
 }
 
@@ -115,6 +125,7 @@ fn empty_with<'a>(
         forced: Vec::new(alloc),
         forbidden: Vec::new(alloc),
         masters: IndexMap::with_hasher(alloc, TextHash::of(&[])),
+        on_masters: Vec::new(alloc),
         order: None,
     }
 }
@@ -125,9 +136,9 @@ const MANY: usize = 65_536;
 /// A line that makes an entry mostly has at least so many bytes.
 const BYTES_OF_LINE: usize = 13;
 
-/// Makes a map ready for one more entry: the first is put by hashes that the text can't choose, which take time in the length of the
-/// text. Where there are many, there is room for all that the text may have from then on: room that isn't used costs nothing, and the
-/// map doesn't have to move.
+/// Makes a map ready for one more entry: the first is put by hashes that the text can't choose, which take time in the length of
+/// the text. Where there are many, there is room for all that the text may have from then on: room that isn't used costs nothing,
+/// and the map doesn't have to move.
 pub(crate) fn make_ready<K: Eq + Hash + Drop, V: Drop>(
     map: &mut IndexMap<K, V, TextHash>,
     text: &[u8],

@@ -1,6 +1,6 @@
 //! Master lists.
 
-ghost use Rattle.std.specs.Prelude.{◌≡◌, ◌<◌, ◌≤◌, ◌+◌, true, None, length, map, All, IfOk, IfErr};
+ghost use Rattle.std.specs.Prelude.{◌≡◌, ◌<◌, ◌≤◌, ◌+◌, true, None, length, IfOk, IfErr};
 ghost use Rattle.std.specs.List.{list_any};
 ghost use Rattle.std.specs.Str.{bytes_eq};
 ghost use Rattle.sm_text.specs.Limits.{most_entries};
@@ -10,9 +10,9 @@ ghost use Rattle.sm_reader.specs.Forms.{shares};
 ghost use Rattle.sm_reader.specs.Judging.{fault_of};
 ghost use Rattle.sm_keys.specs.Tables.{has_repeated};
 ghost use Rattle.sm_keys.specs.Tokens.{AreNamesAtEnd};
-ghost use Rattle.sm_reader.specs.Draft.{said_of, IsDraft, AddsForm, IsLineFault, RefusesFor, HasNames, master_in, masters_declared, master_fault, IsMaster, PutsMaster};
+ghost use Rattle.sm_reader.specs.Draft.{said_of, IsDraft, AddsForm, IsLineFault, RefusesFor, HasMasters, masters_in, masters_declared, master_fault, IsMaster, PutsMaster};
 
-use crate::draft::{Draft, make_ready};
+use crate::draft::{Draft, MasterList, make_ready};
 use crate::faults::TextFault;
 use crate::judging::checked_capacity;
 use sm_instance::Kind;
@@ -34,14 +34,17 @@ pub(crate) fn master_entries<'a>(
     master: &'a [u8],
     line: u32,
 ) -> Result<Vec<&'a [u8]>, TextFault>
-    requires { All HasNames draft.now.masters.entries }
+    requires { HasMasters draft.now }
     ensures found { IfOk result (λ entries. IsMaster draft.now master.now
         (texts_of entries.items)) }
     ensures refused { IfErr result (λ f. RefusesFor RefusalKind.BadName line
-        (entries_named (map master_in draft.now.masters.entries) master.now ≡ None) f) }
+        (entries_named (masters_in draft.now) master.now ≡ None) f) }
 {
     match draft.masters.get(&TextKey { text: master }) {
-        Some(entries) => Ok(Vec::from_slice(alloc, entries)?),
+        Some(list) => {
+            let names = &draft.on_masters[list.start as usize..list.stop as usize];
+            Ok(Vec::from_slice(alloc, names)?)
+        }
         None => Err(TextFault::Refused(RefusalKind::BadName, line)),
     }
 }
@@ -55,6 +58,7 @@ pub(crate) fn add_master<'a>(
     names: usize,
 ) -> Result<(), TextFault>
     requires fit { draft.old.entries ≤ most_entries }
+    requires few { length draft.old.on_masters.items ≤ draft.old.entries }
     requires names { AreNamesAtEnd names (texts_of master.entries.now) }
     ensures added { IfOk result (λ _. (kind : Kind) → IsDraft kind line draft.old
         → AddsForm kind line (shares master.entry.name.now (texts_of master.entry.entries.now))
@@ -102,15 +106,21 @@ fn put_master<'a>(
     draft: &mut Draft<'a>,
     master: MasterRuns<'a, '_>,
 ) -> Result<(), AllocError>
-    requires { master_fault (masters_declared draft.old) master.name.now
+    requires faultless { master_fault (masters_declared draft.old) master.name.now
         (texts_of master.entries.now) draft.old.entries ≡ None }
+    requires few { length draft.old.on_masters.items ≤ draft.old.entries }
     ensures { IfOk result (λ _. PutsMaster draft.old draft.new master.entry.name.now
         (texts_of master.entry.entries.now)) }
 {
     let MasterRuns { name, entries } = master;
     make_ready(&mut draft.masters, draft.text)?;
-    let names = Vec::from_slice(alloc, entries)?;
-    draft.masters.insert(TextKey { text: name }, names)?;
+    let start = draft.on_masters.len();
+    draft.on_masters.extend_from_slice(entries)?;
+    let list = MasterList {
+        start: start as u32,
+        stop: draft.on_masters.len() as u32,
+    };
+    draft.masters.insert(TextKey { text: name }, list)?;
     draft.entries += entries.len();
     Ok(())
 }

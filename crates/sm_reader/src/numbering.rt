@@ -52,8 +52,8 @@ pub(crate) fn first_unknown(kind: Kind, draft: &Draft<'_>) -> Option<u32>
     earlier(of_pairs, first_in_order(proposers, &draft.order))
 }
 
-/// The first line of an agent that lists a name which isn't declared. No line does where each name that stands on lists is declared, and
-/// nothing is looked for then.
+/// The first line of an agent that lists a name which isn't declared. No line does where each name that stands on lists is
+/// declared, and nothing is looked for then.
 fn first_in_agents(kind: Kind, draft: &Draft<'_>) -> Option<u32>
     requires { IsReady kind draft.now }
     ensures { result ≡ least (agents_with_unknown kind draft.now) }
@@ -207,12 +207,14 @@ pub(crate) fn numbered_persons(alloc: Global, draft: Draft<'_>) -> Result<Vec<Ag
         reviewers,
         weights,
         masters,
+        on_masters,
         ..
     } = draft;
     drop(reviewer_names);
     drop(reviewers);
     drop(weights);
     drop(masters);
+    drop(on_masters);
     let persons = number_agents(alloc, &proposer_names, proposers);
     drop(proposer_names);
     persons
@@ -237,10 +239,12 @@ pub(crate) fn numbered_sides(
         forced,
         forbidden,
         masters,
+        on_masters,
         order,
         ..
     } = draft;
     drop(masters);
+    drop(on_masters);
     let said = number_said(
         alloc,
         &proposer_names,

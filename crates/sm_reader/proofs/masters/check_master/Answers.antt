@@ -15,7 +15,7 @@ pub returns-then-contains_key-clause-fault : goal.returns-then-contains_key-clau
 returns-then-contains_key-clause-fault c =
     let d = c.args.draft.now in
     let name = c.args.master.name.now in
-    let is : list_any (bytes_eq name) (masters_declared d) ≡ true = sym (declared_among name d.masters.entries) ∙ sym c.contains_key.ensures ∙ c.if-contains_key.true in
+    let is : list_any (bytes_eq name) (masters_declared d) ≡ true = sym (declared_among (texts_of d.on_masters.items) name d.masters.entries) ∙ sym c.contains_key.ensures ∙ c.if-contains_key.true in
     (rw is refl, refl)
 
 pub returns-then-branch-clause-fault : goal.returns-then-branch-clause-fault
@@ -23,7 +23,7 @@ returns-then-branch-clause-fault c =
     let d = c.args.draft.now in
     let name = c.args.master.name.now in
     let entries = texts_of c.args.master.entries.now in
-    let is : list_any (bytes_eq name) (masters_declared d) ≡ false = sym (declared_among name d.masters.entries) ∙ sym c.contains_key.ensures ∙ c.if-contains_key.false in
+    let is : list_any (bytes_eq name) (masters_declared d) ≡ false = sym (declared_among (texts_of d.on_masters.items) name d.masters.entries) ∙ sym c.contains_key.ensures ∙ c.if-contains_key.false in
     let twice : has_repeated entries ≡ true = sym c.in_ok-has_repeated.ensures ∙ c.if-branch.true in
     (rw (is, twice) refl, refl)
 
@@ -32,7 +32,7 @@ returns-then-entries-draft-clause-fault c =
     let d = c.args.draft.now in
     let name = c.args.master.name.now in
     let entries = texts_of c.args.master.entries.now in
-    let is : list_any (bytes_eq name) (masters_declared d) ≡ false = sym (declared_among name d.masters.entries) ∙ sym c.contains_key.ensures ∙ c.if-contains_key.false in
+    let is : list_any (bytes_eq name) (masters_declared d) ≡ false = sym (declared_among (texts_of d.on_masters.items) name d.masters.entries) ∙ sym c.contains_key.ensures ∙ c.if-contains_key.false in
     let differ : has_repeated entries ≡ false = sym c.in_ok-has_repeated.ensures ∙ c.if-branch.false in
     let long : length entries ≡ length c.args.master.entries.now = length-map c.args.master.entries.now (λ (x : Bor (List ℕ)). x.now) in
     let past : nat_lt most_entries (d.entries + length entries) ≡ true = grind (arith, nat_tests) in
@@ -43,7 +43,7 @@ returns-clause-faultless c =
     let d = c.args.draft.now in
     let name = c.args.master.name.now in
     let entries = texts_of c.args.master.entries.now in
-    let is : list_any (bytes_eq name) (masters_declared d) ≡ false = sym (declared_among name d.masters.entries) ∙ sym c.contains_key.ensures ∙ c.if-contains_key.false in
+    let is : list_any (bytes_eq name) (masters_declared d) ≡ false = sym (declared_among (texts_of d.on_masters.items) name d.masters.entries) ∙ sym c.contains_key.ensures ∙ c.if-contains_key.false in
     let differ : has_repeated entries ≡ false = sym c.in_ok-has_repeated.ensures ∙ c.if-branch.false in
     let long : length entries ≡ length c.args.master.entries.now = length-map c.args.master.entries.now (λ (x : Bor (List ℕ)). x.now) in
     let fits : nat_lt most_entries (d.entries + length entries) ≡ false = grind (arith, nat_tests) in
