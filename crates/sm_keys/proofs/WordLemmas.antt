@@ -1,11 +1,11 @@
 -- Bytes as one number.
-use Rattle.std.proofs.Common.{◌≡◌, ℕ, zero, suc, ◌+◌, ◌-◌, ◌*◌, ◌%◌, ◌^◌, ◌<◌, ◌≤◌, ◌++◌, ◌∷◌, [], eqb, Bool, true, false, List, length, replicate, get_or, take, drop, refl, sym, ap, ◌∙◌, arith, w32, length-drop, length-take, length-take-le, get_or-drop, get_or-take, subst, ⊎_elim}
+use Rattle.std.proofs.Common.{◌≡◌, ℕ, zero, suc, ◌+◌, ◌-◌, ◌*◌, ◌/◌, ◌%◌, ◌^◌, ◌<◌, ◌≤◌, ◌++◌, ◌∷◌, [], eqb, Bool, true, false, List, length, replicate, get_or, take, drop, refl, sym, ap, ◌∙◌, arith, w32, length-drop, length-take, length-take-le, get_or-drop, get_or-take, subst, ⊎_elim}
 use Rattle.std.specs.Int.{from_le_bytes, to_le_bytes, w64}
 use Rattle.std.specs.Str.{bytes_eq}
 use Rattle.std.proofs.lemmas.Bool.{false≢true, cases_lt}
 use Rattle.std.proofs.lemmas.Bool.Decides.{nat_tests}
-use Rattle.std.proofs.lemmas.List.{get_or_past, get_or_append_left, get_or-append_right, get_or-replicate, length-append, length-replicate, take-take, take-append-le, take_all}
-use Rattle.std.proofs.lemmas.Nat.{le_bytes_4, le_bytes_8, mod-mul-add}
+use Rattle.std.proofs.lemmas.List.{drop-drop, get_or_past, get_or_append_left, get_or-append_right, get_or-replicate, length-append, length-replicate, take-take, take-append-le, take_all}
+use Rattle.std.proofs.lemmas.Nat.{le_bytes_4, le_bytes_8, div-mul-add, mod-mul-add, shr-shr}
 use Rattle.sm_keys.specs.Words.{IsWordOf, HasWord, word_of}
 use Rattle.sm_keys.proofs.TextLemmas.{same_text, other_text}
 
@@ -203,6 +203,51 @@ number_there line at len number bytes inside few is = record {
     begins =
         let n : length (take (at + len - at) (drop at line)) ≡ at + len - at = length-take-le (at + len - at) (drop at line) (omega (arith, length-drop at line)) in
         ap (λ k. take k (take 8 (drop at line))) n ∙ take-take (at + len - at) 8 (drop at line) (omega arith)
+
+-- without the first of at most eight bytes the others are moved down
+one_off : (bytes : List ℕ) → ((i : ℕ) → get_or bytes i 0 < 256) → length bytes ≤ 8 → from_le_bytes w64 bytes / 2 ^ 8 ≡ from_le_bytes w64 (drop 1 bytes)
+one_off bytes small eight =
+    let next : (i : ℕ) → get_or (drop 1 bytes) i 0 ≡ get_or bytes (1 + i) 0 = λ i. get_or-drop 1 bytes i 0 in
+    let all : from_le_bytes w64 bytes ≡ from_le_bytes w64 (drop 1 bytes) * 2 ^ 8 + get_or bytes 0 0 = omega (arith, next 0, next 1, next 2, next 3, next 4, next 5, next 6, next 7, get_or_past bytes 8 0 eight) in
+    ap (λ m. m / 2 ^ 8) all ∙ div-mul-add (from_le_bytes w64 (drop 1 bytes)) (2 ^ 8) (get_or bytes 0 0) (small 0)
+
+-- and so they are without the first n
+shifted : (n : ℕ) (bytes : List ℕ) → ((i : ℕ) → get_or bytes i 0 < 256) → length bytes ≤ 8 → from_le_bytes w64 bytes / 2 ^ (8 * n) ≡ from_le_bytes w64 (drop n bytes)
+shifted zero bytes small eight = omega arith
+shifted (suc n) bytes small eight =
+    let rest = drop 1 bytes in
+    let few : length rest ≤ 8 = omega (arith, length-drop 1 bytes) in
+    (let e : 8 * suc n ≡ 8 + 8 * n = omega arith in ap (λ k. from_le_bytes w64 bytes / 2 ^ k) e)
+    ∙ sym (shr-shr (from_le_bytes w64 bytes) 8 (8 * n))
+    ∙ ap (λ m. m / 2 ^ (8 * n)) (one_off bytes small eight)
+    ∙ shifted n rest (λ i. subst (λ x. x < 256) (sym (get_or-drop 1 bytes i 0)) (small (1 + i))) few
+    ∙ ap (from_le_bytes w64) (drop-drop n 1 bytes ∙ (let e : 1 + n ≡ suc n = omega arith in ap (λ k. drop k bytes) e))
+
+-- the number of the bytes that stand at a place among the last eight of a line
+pub number_of_last : (line : List ℕ) (at last number : ℕ) → ((i : ℕ) → get_or line i 0 < 256) → last + 8 ≡ length line → last ≤ at → at < length line
+    → number ≡ from_le_bytes w64 (take 8 (drop last line)) → number / 2 ^ (8 * (at - last)) ≡ from_le_bytes w64 (drop at line)
+number_of_last line at last number bytes eight behind within is =
+    let few : length (drop last line) ≤ 8 = omega (arith, length-drop last line) in
+    let whole : number ≡ from_le_bytes w64 (drop last line) = is ∙ ap (from_le_bytes w64) (take_all 8 (drop last line) few) in
+    ap (λ m. m / 2 ^ (8 * (at - last))) whole
+    ∙ shifted (at - last) (drop last line) (λ i. subst (λ x. x < 256) (sym (get_or-drop last line i 0)) (bytes (last + i))) few
+    ∙ ap (from_le_bytes w64) (drop-drop (at - last) last line ∙ (let e : last + (at - last) ≡ at = omega arith in ap (λ n. drop n line) e))
+
+-- that number is one of eight bytes, of which the first are a name
+pub number_at_end : (line : List ℕ) (at len number : ℕ) → ((i : ℕ) → get_or line i 0 < 256) → length line ≤ at + 8 → at + len ≤ length line
+    → number ≡ from_le_bytes w64 (drop at line) → HasWord number (take (at + len - at) (drop at line))
+number_at_end line at len number bytes last within is =
+    let rest = drop at line in
+    let few : length rest ≤ 8 = omega (arith, length-drop at line) in
+    let small : (i : ℕ) → get_or rest i 0 < 256 = λ i. subst (λ x. x < 256) (sym (get_or-drop at line i 0)) (bytes (at + i)) in
+    let n : length (take (at + len - at) rest) ≡ at + len - at = length-take-le (at + len - at) rest (omega (arith, length-drop at line)) in
+    record {
+      bytes = padded rest small few;
+      are_eight = eight rest small few;
+      small = padded_small rest small few;
+      number = is ∙ sym (padded_number rest small few);
+      begins = ap (λ k. take k (padded rest small few)) n ∙ take-append-le (at + len - at) rest (replicate (8 - length rest) 0) (omega (arith, length-drop at line));
+    }
 
 -- names of one to eight bytes are the same where their words are
 pub words_decide : (a b : List ℕ) → ((i : ℕ) → get_or a i 0 < 256) → ((i : ℕ) → get_or b i 0 < 256) → length a ≡ length b

@@ -1,6 +1,6 @@
 //! Names that are known, read from a line without a look at each byte.
 
-ghost use Rattle.std.specs.Prelude.{◌≡◌, ◌+◌, ◌-◌, ◌<◌, ◌≤◌, length, take, drop, vec_len, vec_capacity, IfSome};
+ghost use Rattle.std.specs.Prelude.{◌≡◌, ◌≢◌, ◌+◌, ◌-◌, ◌<◌, ◌≤◌, true, false, length, slice_index, slice_set, take, drop, vec_len, vec_capacity, IfSome};
 ghost use Rattle.std.specs.Int.{from_le_bytes, w64};
 ghost use Rattle.sm_keys.specs.Lines.{IsNamed, IsNameAt, ListsLineFurther};
 ghost use Rattle.sm_keys.specs.Keys.{key_texts};
@@ -24,7 +24,8 @@ pub(crate) struct Known<'b, 'a> {
 }
 
 /// Lists the next names on a line, up to one that isn't where it is guessed or has this stamp, and answers the place behind them. No
-/// call stands in the loop, so that what it reads stays in registers.
+/// call stands in a loop, so that what it reads stays in registers, and names among the last eight bytes have a loop of their own, so
+/// that nothing is tested for them where the others are read.
 #[inline(always)]
 pub(crate) fn list_known(
     known: Known<'_, '_>,
@@ -46,14 +47,35 @@ pub(crate) fn list_known(
     let last = line.len().saturating_sub(8);
     let mut at = from;
     'names: while let Some((index, next)) = name_at(known, line, at, last) {
-        if stamps[index as usize] == stamp {
+        if !stamp_name(stamps, index, stamp) {
             return at;
         }
-        stamps[index as usize] = stamp;
+        indexes.push_reserved(index);
+        at = next;
+    }
+    'ends: while let Some((index, next)) = name_at_end(known, line, at, last) {
+        if !stamp_name(stamps, index, stamp) {
+            return at;
+        }
         indexes.push_reserved(index);
         at = next;
     }
     at
+}
+
+/// Gives a name a stamp, unless it has this one, and answers whether it did.
+#[inline(always)]
+fn stamp_name(stamps: &mut [u32], index: u32, stamp: u32) -> bool
+    requires { index < length stamps.old }
+    ensures stamped { result ≡ true → stamps.new ≡ slice_set stamps.old index stamp }
+    ensures other { result ≡ true → slice_index stamps.old index ≢ stamp }
+    ensures same { result ≡ false → stamps.new ≡ stamps.old }
+{
+    if stamps[index as usize] == stamp {
+        return false;
+    }
+    stamps[index as usize] = stamp;
+    true
 }
 
 /// Has the first name on a line at most eight bytes? Longer ones can't be guessed at, and tokens are cut faster together than one by
@@ -84,6 +106,44 @@ fn name_at(known: Known<'_, '_>, line: &[u8], at: usize, last: usize) -> Option<
     } else {
         None
     }
+}
+
+/// The index of the name that stands at a place among the last eight bytes and ends the line or has one blank behind it, and the place
+/// behind it or the blank; `None` where it isn't where it is guessed. A line of fewer bytes has none.
+#[inline(always)]
+fn name_at_end(known: Known<'_, '_>, line: &[u8], at: usize, last: usize) -> Option<(u32, usize)>
+    requires { last ≡ length line.now - 8 }
+    ensures { IfSome result (λ r. IsNameAt (key_texts known.entry.names.now) line.now at r.0 r.1) }
+{
+    if at < last {
+        return None;
+    }
+    let before = at - last;
+    if line.len() < 8 || before >= 8 {
+        return None;
+    }
+    let first = last_from(line, at, last);
+    let len = guessed_len(first).min(8 - before);
+    let index = index_of(known, &line[at..at + len], first)?;
+    let stop = at + len;
+    if stop == line.len() {
+        Some((index, stop))
+    } else if line[stop] == b' ' {
+        Some((index, stop + 1))
+    } else {
+        None
+    }
+}
+
+/// The number that the bytes from a place among the last eight on make, the first one least.
+#[inline(always)]
+fn last_from(line: &[u8], at: usize, last: usize) -> u64
+    requires last { last + 8 ≡ length line.now }
+    requires behind { last ≤ at }
+    requires within { at < length line.now }
+    ensures { result ≡ from_le_bytes w64 (drop at line.now) }
+{
+    eight_from(line, last) >> (8 * (at - last))
 }
 
 /// The number that the next eight bytes make, the first one least. They are named one by one, since they are read at once then,

@@ -77,14 +77,10 @@ impl<'a> Names<'a> {
         })
     }
 
-    /// The index of a name, from 0, which is added where it didn't stand before. Takes time in the length of the name; the text
-    /// is digested once, when many names have been looked for. Always inlined, so that a name whose index is guessed needs no call.
-    ///
-    /// # Errors
-    ///
-    /// `AllocError` where memory ran out, and only then.
+    /// The index of a name, from 0, which is added where it didn't stand before. Always inlined, so that a name whose index is
+    /// guessed needs no call.
     #[inline(always)]
-    pub fn intern(&mut self, name: &'a [u8]) -> Result<u32, AllocError>
+    fn intern(&mut self, name: &'a [u8]) -> Result<u32, AllocError>
         ensures { IfOk result (λ i. Interns self.old self.new name.now i) }
     {
         match self.recall(name) {
@@ -160,8 +156,8 @@ impl<'a> Names<'a> {
         Ok(place as u32)
     }
 
-    /// Declares a name under the next number, unless it is declared, and answers whether it did. Takes the time of
-    /// [`Names::intern`].
+    /// Declares a name under the next number, unless it is declared, and answers whether it did. Takes time in the length of the
+    /// name; the text is digested once, when many names have been looked for.
     ///
     /// # Errors
     ///
@@ -180,7 +176,7 @@ impl<'a> Names<'a> {
         Ok(true)
     }
 
-    /// The index of a name on the list of a line, `None` where it stands there already. Takes the time of [`Names::intern`].
+    /// The index of a name on the list of a line, `None` where it stands there already. Takes the time of [`Names::declare`].
     ///
     /// # Errors
     ///
@@ -271,8 +267,8 @@ impl<'a> Names<'a> {
         }
     }
 
-    /// The indexes of the names on the list of a line, `None` where one stands on it twice. Takes the time of [`Names::intern`] for
-    /// each name, and memory in proportion to the list.
+    /// The indexes of the names on the list of a line, `None` where one stands on it twice. Takes the time of [`Names::declare`]
+    /// for each name, and memory in proportion to the list.
     ///
     /// # Errors
     ///
@@ -299,7 +295,7 @@ impl<'a> Names<'a> {
 
     /// Lists the names on a list as it stands on the line of a number: their indexes, instead of what the vector holds. `false` where
     /// something else stands on it, or a name twice; names may have been added then, and none has this number. Takes the time of
-    /// [`Names::intern`] for each name, and memory in proportion to the line.
+    /// [`Names::declare`] for each name, and memory in proportion to the line.
     ///
     /// # Errors
     ///
@@ -339,7 +335,7 @@ impl<'a> Names<'a> {
         ensures { IfOk result (λ all. FindsLine self.old self.new (tokens line.now) stamp all
             indexes.new.items) }
     {
-        let mut at = self.list_known(line, 0, stamp, indexes);
+        let mut at = self.list_known(line, behind_blank(line, 0), stamp, indexes);
         'tokens: while let Some(token) = token_from(line, at) {
             if !token.name {
                 return Ok(false);

@@ -7,7 +7,7 @@ use Rattle.sm_keys.proofs.known.name_at.Goals as goal
 pub returns-then-line-at-eq32 : goal.returns-then-line-at-eq32
 returns-then-line-at-eq32 c =
     let stop = c.args.at + c.guessed_len-len.result in
-    known_name (key_texts c.args.known.names.now) c.args.line.now c.args.at stop c.in_ok-index.index (omega arith) (omega (arith, c.if-at-last.false, c.requires, c.guessed_len-len.ensures)) c.in_ok-index.ensures c.if-line-at-eq32.true
+    known_name (key_texts c.args.known.names.now) c.args.line.now c.args.at stop c.in_ok-index.index (omega arith) c.in_ok-index.ensures (omega (arith, c.if-at-last.false, c.requires, c.guessed_len-len.ensures)) c.if-line-at-eq32.true
 
 pub index_of-requires-clause-first : goal.index_of-requires-clause-first
 index_of-requires-clause-first c =

@@ -14,9 +14,11 @@ list_known-at-requires-clause-some c = omega (arith, c.requires.fresh 0)
 pub tokens-init : goal.tokens-init
 tokens-init c =
     let t = c.args.self.now in
+    let line = c.args.line.now in
     let none : vec_len c.args.indexes.now ≡ 0 = omega (arith, c.args.indexes.now.ok.0, ap length c.requires.none) in
+    let moved = line_moved t t line 0 c.behind_blank.result c.args.stamp 0 [] (line_none t line c.args.stamp c.requires.fresh) c.behind_blank.ensures.tokens in
     record {
-      listing = c.list_known-at.ensures.further t (rw (c.requires.none, none) (line_none t c.args.line.now c.args.stamp c.requires.fresh));
+      listing = c.list_known-at.ensures.further t (rw (c.requires.none, none) moved);
       room = c.list_known-at.ensures.room;
     }
 
@@ -43,7 +45,7 @@ tokens-preserved c =
     let some : 0 < c.args.stamp = omega (arith, c.requires.fresh 0) in
     let more : IsListingLine c.args.self.now c.meet.new.self line token.stop c.args.stamp (i + 1) (indexes.items ++ index ∷ []) =
     line_more c.args.self.now c.tokens.self c.meet.new.self line c.tokens.at token.stop c.args.stamp i indexes.items name index some c.tokens.invariant.listing leading.leads is met in
-    let moved = line_moved c.args.self.now c.meet.new.self line token.stop c.behind_blank.result c.args.stamp (i + 1) (indexes.items ++ index ∷ []) more c.behind_blank.ensures.tokens in
+    let moved = line_moved c.args.self.now c.meet.new.self line token.stop c.behind_blank-in-Some.result c.args.stamp (i + 1) (indexes.items ++ index ∷ []) more c.behind_blank-in-Some.ensures.tokens in
     let long : vec_len c.push_reserved.new.self ≡ i + 1 = omega (arith, c.push_reserved.ensures.len) in
     record {
       listing = c.list_known-at-in-Some.ensures.further c.args.self.now (rw (c.push_reserved.ensures.items, long) moved);

@@ -1,9 +1,8 @@
 use Rattle.std.proofs.Common.{◌≡◌, ◌∙◌, sym, subst, arith, length, ℕ, List}
 use Rattle.std.specs.Borrow.{Bor}
 use Rattle.std.proofs.lemmas.List.{length-map}
-use Rattle.std.proofs.lemmas.Bool.Decides.{nat_tests}
 use Rattle.indexmap.specs.IndexSet.{keys}
-use Rattle.sm_keys.specs.Tables.{number_in, Table, table_from}
+use Rattle.sm_keys.specs.Tables.{Table, table_from}
 use Rattle.sm_text.specs.Slices.{texts_of}
 use Rattle.sm_keys.proofs.PositionLemmas.{none_past}
 use Rattle.std.specs.Str.{bytes_eq}
