@@ -203,8 +203,11 @@ fn make_ready(bytes: &mut Vec<u8>, len: usize, more: usize) -> Result<usize, All
     Ok(to)
 }
 
-/// Adds bytes to write over, up to a place at least: as many as there are, so that the time is in proportion to what is put, but no
-/// more than there is room for.
+/// Most lines have fewer bytes, even with a name of sixteen put behind them.
+const USUAL: usize = 128;
+
+/// Adds bytes to write over, up to a place at least: as many as there are, so that the time is in proportion to what is put, and enough
+/// for most lines, but no more than there is room for.
 #[inline(never)]
 fn fill_up(bytes: &mut Vec<u8>, to: usize) -> Result<(), AllocError>
     requires further { vec_len bytes.old < to }
@@ -214,7 +217,7 @@ fn fill_up(bytes: &mut Vec<u8>, to: usize) -> Result<(), AllocError>
     ensures room { vec_capacity bytes.old ≤ vec_capacity bytes.new }
 {
     bytes.reserve(to - bytes.len())?;
-    let twice = bytes.len().saturating_mul(2);
+    let twice = bytes.len().saturating_mul(2).max(USUAL);
     let len = twice.min(bytes.capacity()).max(to);
     bytes.resize(len, 0).unwrap();
     Ok(())

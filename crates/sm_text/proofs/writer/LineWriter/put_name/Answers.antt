@@ -1,4 +1,4 @@
-use Rattle.std.proofs.Common.{◌≡◌, ◌≤◌, ◌++◌, ◌∷◌, length, take, refl, ap, ◌∙◌, arith}
+use Rattle.std.proofs.Common.{◌++◌, ◌∷◌, take, refl, ap, ◌∙◌, arith}
 use Rattle.sm_text.proofs.WriterLemmas.{written_over}
 use Rattle.sm_text.proofs.writer.LineWriter.put_name.Goals as goal
 
