@@ -5,13 +5,13 @@ ghost use Rattle.std.specs.List.{join_with_byte};
 ghost use Rattle.sm_text.specs.Lines.{LF};
 ghost use Rattle.sm_report.specs.Heads.{head_of};
 ghost use Rattle.sm_report.specs.Lines.{line_of};
-ghost use Rattle.sm_report.specs.Texts.{fields_of_head, text_of_line};
-ghost use Rattle.sm_report.specs.Sound.{IsPrintable};
-ghost use Rattle.sm_report.specs.Fields.{text_of_field, AreShown};
+ghost use Rattle.sm_report.specs.Texts.{fields_of_head, text_of_line, left_name, right_name};
+ghost use Rattle.sm_report.specs.Sound.{IsPrintable, ArePair};
+ghost use Rattle.sm_report.specs.Fields.{text_of_field, AreShown, spaced};
 ghost use Rattle.sm_report.specs.Items.{fields_of_items, AreNamed};
 ghost use Rattle.sm_report.specs.Putting.{PutsText};
 
-use crate::fields::{Field, put_fields};
+use crate::fields::{Field, put_field, put_fields};
 use crate::heads::Head;
 use crate::items::{Items, put_items};
 use crate::lines::Line;
@@ -56,6 +56,33 @@ fn put_words(
     put_fields(into, input, fields)
 }
 
+/// Puts a word and the names of a pair, with a space between each two of them.
+fn put_named(
+    into: &mut LineWriter,
+    input: &Input,
+    word: &[u8],
+    p: u32,
+    r: u32,
+) -> Result<(), AllocError>
+    requires { ArePair input.now p r }
+    ensures { PutsText into.old into.new (join_with_byte 32
+        (word.now ∷ left_name input.now p ∷ right_name input.now r ∷ [])) result }
+{
+    into.put_bytes(word)?;
+    put_names(into, input, p, r)
+}
+
+/// Puts the names of a pair, each behind a space.
+#[inline(always)]
+fn put_names(into: &mut LineWriter, input: &Input, p: u32, r: u32) -> Result<(), AllocError>
+    requires { ArePair input.now p r }
+    ensures { PutsText into.old into.new (spaced (left_name input.now p
+        ∷ right_name input.now r ∷ [])) result }
+{
+    put_field(into, input, Field::Left(p))?;
+    put_field(into, input, Field::Right(r))
+}
+
 /// Puts a word, fields and a list, with a space between each two of them.
 fn put_list(
     into: &mut LineWriter,
@@ -85,7 +112,7 @@ pub fn put_text(into: &mut LineWriter, input: &Input, line: &Line) -> Result<(),
 {
     match line {
         Line::Answer(head) => put_head(into, input, head),
-        Line::Pair(p, r) => put_words(into, input, b"pair", &[Field::Left(*p), Field::Right(*r)]),
+        Line::Pair(p, r) => put_named(into, input, b"pair", *p, *r),
         Line::Nothing => put_words(into, input, b"none", &[]),
         Line::Party(persons) => put_list(into, input, b"party", &[], Items::Lefts(persons)),
         Line::Out(person) => put_words(into, input, b"out", &[Field::Left(*person)]),
@@ -168,13 +195,8 @@ pub fn put_text(into: &mut LineWriter, input: &Input, line: &Line) -> Result<(),
         Line::SecondCut(value) => put_words(into, input, b"cut2", &[Field::Number(*value)]),
         Line::Total(weight) => put_words(into, input, b"total", &[Field::Signed(*weight)]),
         Line::SecondTotal(weight) => put_words(into, input, b"total2", &[Field::Signed(*weight)]),
-        Line::SomePair(p, r) => put_words(
-            into,
-            input,
-            b"some",
-            &[Field::Left(*p), Field::Right(*r)],
-        ),
-        Line::AllPair(p, r) => put_words(into, input, b"all", &[Field::Left(*p), Field::Right(*r)]),
+        Line::SomePair(p, r) => put_named(into, input, b"some", *p, *r),
+        Line::AllPair(p, r) => put_named(into, input, b"all", *p, *r),
         Line::Vector(vector) => put_words(into, input, b"vector", &[Field::Vector(vector)]),
         Line::More(vector) => put_words(into, input, b"more", &[Field::Vector(vector)]),
         Line::Regret(regret) => put_words(
@@ -183,18 +205,8 @@ pub fn put_text(into: &mut LineWriter, input: &Input, line: &Line) -> Result<(),
             b"regret",
             &[Field::Number(u64::from(*regret))],
         ),
-        Line::LeftPair(p, r) => put_words(
-            into,
-            input,
-            b"left",
-            &[Field::Left(*p), Field::Right(*r)],
-        ),
-        Line::RightPair(p, r) => put_words(
-            into,
-            input,
-            b"right",
-            &[Field::Left(*p), Field::Right(*r)],
-        ),
+        Line::LeftPair(p, r) => put_named(into, input, b"left", *p, *r),
+        Line::RightPair(p, r) => put_named(into, input, b"right", *p, *r),
         Line::Back(i) => put_words(into, input, b"back", &[Field::Number(u64::from(*i))]),
         Line::Forth(i) => put_words(into, input, b"forth", &[Field::Number(u64::from(*i))]),
         Line::Listed(count) => put_words(
