@@ -14,11 +14,11 @@ use Rattle.sm_agents.specs.declared.kinds.Kind.TheVariants.{Marriage, Hospitals,
 use Rattle.sm_agents.specs.declared.kinds.Side.{Side}
 use Rattle.sm_agents.specs.declared.kinds.Side.TheVariants.{Proposers, Reviewers}
 use Rattle.sm_agents.specs.Named.{SaidPair, SaidWeight, Said, names_of, agents_on, all_entries, is_given_to}
-use Rattle.sm_reader.specs.Forms.{Form, declares, orders, weighs, list_form, capacity_form, weight_form, pair_form, reviewer_form, two_sided_form, form_behind, order_form, second_form, two_sided_added_form, added_form, form_under, is_end, header_of}
+use Rattle.sm_forms.specs.Forms.{Form, declares, orders, weighs, list_form, capacity_form, weight_form, pair_form, reviewer_form, two_sided_form, form_behind, order_form, second_form, two_sided_added_form, added_form, form_under, is_end, header_of}
 use Rattle.sm_keys.specs.Tokens.{is_bad}
 use Rattle.sm_reader.specs.Judging.{goes, stops, of_form, heads, heading_of, verdict_on, first_fault, fault_of, said_with, is_bad_capacity, weight_in, second_in}
 use Rattle.sm_keys.specs.Tables.{has_repeated}
-use Rattle.sm_reader.proofs.NameLemmas.{names_begin}
+use Rattle.sm_forms.proofs.NameLemmas.{names_begin}
 use Rattle.sm_report.proofs.DecimalLemmas.{first_true}
 use Rattle.sm_printed.specs.Printed.{header_line}
 use Rattle.sm_law_reprint.proofs.LineLemmas.{headers_cut, end_cut}

@@ -10,7 +10,7 @@ use Rattle.sm_lists.proofs.OrderLemmas.{range_is_each_once}
 use Rattle.sm_agents.proofs.SecondLemmas.{zeros_small}
 use Rattle.sm_agents.specs.Written.{AgentData, agent_at, row}
 use Rattle.sm_agents.specs.Sound.{IsSoundAgent, AreSoundAgents, IsSoundEntry, AreSoundEntries, IsSoundItem, items_of}
-use Rattle.sm_reader.specs.Forms as form
+use Rattle.sm_forms.specs.Forms as form
 use Rattle.sm_keys.specs.Tokens.{is_bad}
 use Rattle.sm_reader.specs.Judging as judge
 use Rattle.sm_reader.specs.InstanceText as text

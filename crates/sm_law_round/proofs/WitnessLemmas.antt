@@ -7,7 +7,7 @@ use Rattle.sm_text.specs.Tokens as token
 use Rattle.sm_instance.specs.declared.inputs.Input.TheVariants.{Two}
 use Rattle.sm_agents.specs.declared.kinds.Measure.TheVariants.{Given}
 use Rattle.sm_agents.specs.declared.kinds.Side.TheVariants.{Proposers}
-use Rattle.sm_reader.specs.Forms as form
+use Rattle.sm_forms.specs.Forms as form
 use Rattle.sm_keys.specs.Tokens.{is_bad}
 use Rattle.sm_reader.specs.Judging as judge
 use Rattle.sm_reader.specs.InstanceText as text

@@ -10,15 +10,16 @@ use Rattle.sm_text.specs.declared.refusal.RefusalKind.TheVariants.{BadByte, BadH
 use Rattle.sm_agents.specs.declared.kinds.Kind.{Kind}
 use Rattle.sm_agents.specs.declared.kinds.Side.{Side}
 use Rattle.sm_agents.specs.Named.{Said, names_of, master_names, agents_on, all_entries, entries_named}
-use Rattle.sm_reader.specs.declared.forms.Condition.{Condition}
-use Rattle.sm_reader.specs.Forms.{Form, declares, weighs, binds, uses, shares, orders, form_under, is_end, header_of}
+use Rattle.sm_forms.specs.declared.forms.Condition.{Condition}
+use Rattle.sm_forms.specs.Forms.{Form, declares, weighs, binds, uses, shares, orders, form_under, is_end, header_of}
 use Rattle.sm_keys.specs.Tokens.{is_bad}
 use Rattle.sm_reader.specs.Judging.{Verdict, goes, stops, refuses, passes, heads, faces, heading_of, verdict_on, of_form, fault_of, agent_fault, said_with, is_bad_capacity}
 use Rattle.sm_text.specs.Slices.{texts_of}
-use Rattle.sm_reader.specs.Draft.{said_of, form_of, run_fault, name_fault, master_fault, order_fault, weight_fault, said_ordered, IsLineFault, IsOrderOf, IsOrdering, AddsBy, IsJudged, IsRefusedBy}
+use Rattle.sm_reader.specs.Draft.{said_of, run_fault, name_fault, master_fault, order_fault, weight_fault, said_ordered, IsLineFault, IsOrdering, AddsBy, IsJudged, IsRefusedBy}
+use Rattle.sm_forms.specs.Forms.{form_of, IsOrderOf}
 use Rattle.sm_reader.specs.declared.draft.Draft.{Draft}
-use Rattle.sm_reader.specs.declared.forms.Form.{Form as Line}
-use Rattle.sm_reader.specs.declared.forms.Form.TheVariants.{Agent as AgentLine, Use as UseLine, Master as MasterLine, Order as OrderLine, Weight as WeightLine, Pair as PairLine}
+use Rattle.sm_forms.specs.declared.forms.Form.{Form as Line}
+use Rattle.sm_forms.specs.declared.forms.Form.TheVariants.{Agent as AgentLine, Use as UseLine, Master as MasterLine, Order as OrderLine, Weight as WeightLine, Pair as PairLine}
 use Rattle.sm_reader.specs.declared.judging.Judged.{Judged}
 use Rattle.sm_reader.specs.declared.judging.Judged.TheVariants.{Added, Orders, Ends}
 use Rattle.sm_reader.specs.declared.faults.TextFault.{TextFault}

@@ -1,4 +1,3 @@
-pub mod NameLemmas
 pub mod DraftLemmas
 pub mod JudgeLemmas
 pub mod AddLemmas
@@ -12,6 +11,5 @@ pub mod SoundLemmas
 pub mod SoundTextLemmas
 pub mod MasterLemmas
 pub mod WitnessLemmas
-pub mod FormLemmas
 pub mod EnoughLemmas
 pub mod ListedLemmas

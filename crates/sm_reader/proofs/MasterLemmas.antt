@@ -17,7 +17,7 @@ use Rattle.sm_text.specs.declared.refusal.RefusalKind.TheVariants.{BadName, Rede
 use Rattle.sm_agents.specs.declared.kinds.Kind.{Kind}
 use Rattle.sm_agents.specs.declared.kinds.Side.{Side}
 use Rattle.sm_agents.specs.Named.{SaidMaster, SaidOrder, entries_of, entries_of_masters, master_names, entries_named, all_entries}
-use Rattle.sm_reader.specs.Forms.{declares, uses, shares, orders}
+use Rattle.sm_forms.specs.Forms.{declares, uses, shares, orders}
 use Rattle.sm_keys.specs.Keys.{spelled}
 use Rattle.sm_keys.specs.Tables.{has_repeated}
 use Rattle.sm_keys.specs.Tokens.{AreNamesAtEnd}

@@ -11,9 +11,9 @@ use Rattle.sm_agents.specs.declared.kinds.Kind.{Kind}
 use Rattle.sm_agents.specs.declared.kinds.Side.{Side}
 use Rattle.sm_agents.specs.declared.kinds.Side.TheVariants.{Proposers, Reviewers}
 use Rattle.sm_agents.specs.Named.{SaidPair, SaidWeight, Said, names_of, all_entries, entries_of, entries_of_masters, agents_on, is_given_to}
-use Rattle.sm_reader.specs.declared.forms.Condition.{Condition}
-use Rattle.sm_reader.specs.declared.forms.Condition.TheVariants.{Force, Forbid}
-use Rattle.sm_reader.specs.Forms.{declares, weighs, binds}
+use Rattle.sm_forms.specs.declared.forms.Condition.{Condition}
+use Rattle.sm_forms.specs.declared.forms.Condition.TheVariants.{Force, Forbid}
+use Rattle.sm_forms.specs.Forms.{declares, weighs, binds}
 use Rattle.sm_reader.specs.Judging.{fault_of, said_with, with_agent, weight_in, second_in, weight_of}
 use Rattle.sm_keys.specs.Keys.{spelled}
 use Rattle.sm_keys.specs.declared.text_key.TextKey.{TextKey}

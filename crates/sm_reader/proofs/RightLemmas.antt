@@ -22,9 +22,9 @@ use Rattle.sm_agents.specs.declared.kinds.Kind.TheVariants.{Marriage, Hospitals,
 use Rattle.sm_agents.specs.declared.kinds.Side.{Side}
 use Rattle.sm_agents.specs.declared.kinds.Side.TheVariants.{Proposers, Reviewers}
 use Rattle.sm_agents.specs.Named.{SaidAgent, SaidWeight, SaidMaster, Said, nothing, names_of, master_names, entries_of, entries_of_masters, all_entries, entries_named, names_first, is_given_to}
-use Rattle.sm_reader.specs.declared.forms.Condition.{Condition}
-use Rattle.sm_reader.specs.declared.forms.Condition.TheVariants.{Force, Forbid}
-use Rattle.sm_reader.specs.Forms.{Form, declares, uses, shares, orders, weighs, binds, is_end, list_form, capacity_form, weight_form, pair_form, reviewer_form, two_sided_form, form_behind, master_form, use_form, capacity_use_form, reviewer_use_form, order_form, second_form, two_sided_added_form, added_form, form_under}
+use Rattle.sm_forms.specs.declared.forms.Condition.{Condition}
+use Rattle.sm_forms.specs.declared.forms.Condition.TheVariants.{Force, Forbid}
+use Rattle.sm_forms.specs.Forms.{Form, declares, uses, shares, orders, weighs, binds, is_end, list_form, capacity_form, weight_form, pair_form, reviewer_form, two_sided_form, form_behind, master_form, use_form, capacity_use_form, reviewer_use_form, order_form, second_form, two_sided_added_form, added_form, form_under}
 use Rattle.sm_keys.specs.Tokens.{is_bad}
 use Rattle.sm_reader.specs.Judging.{goes, stops, refuses, verdict_on, of_form, fault_of, said_with, is_bad_capacity, capacity_in, weight_in, second_in, agent_of, weight_of, with_agent}
 use Rattle.sm_keys.specs.Tables.{has_repeated}

@@ -2,7 +2,7 @@
 use Rattle.std.proofs.Common.{refl}
 use Rattle.sm_text.specs.Name as name
 use Rattle.sm_text.specs.Tokens as token
-use Rattle.sm_reader.specs.Forms as form
+use Rattle.sm_forms.specs.Forms as form
 use Rattle.sm_keys.specs.Tokens.{is_bad}
 use Rattle.sm_reader.specs.Judging as judge
 use Rattle.sm_reader.specs.InstanceText as text

@@ -12,7 +12,7 @@ use Rattle.sm_agents.specs.declared.kinds.Kind.TheVariants.{Marriage, Hospitals,
 use Rattle.sm_agents.specs.declared.kinds.Side.{Side}
 use Rattle.sm_agents.specs.declared.kinds.Side.TheVariants.{Proposers, Reviewers}
 use Rattle.sm_agents.specs.Named.{SaidAgent, SaidPair, SaidWeight, SaidMaster, SaidOrder, Said, all_entries, entries_named, master_names}
-use Rattle.sm_reader.specs.Forms.{Form, declares, uses, shares, orders, weighs, binds}
+use Rattle.sm_forms.specs.Forms.{Form, declares, uses, shares, orders, weighs, binds, form_of}
 use Rattle.sm_reader.specs.Judging.{Verdict, goes, stops, refuses, first_fault, run_rows, name_rows, entry_rows, limit_rows, order_rows, weight_rows, capacity_in, weight_in, second_in, fault_of, with_agent, said_with, weight_of, verdict_on}
 use Rattle.sm_keys.specs.Tables.{Table, text_at, AreBelow, Declares, IsListed, has_repeated}
 use Rattle.sm_keys.specs.Tokens.{AreNamesAtEnd}
@@ -27,33 +27,15 @@ use Rattle.sm_reader.specs.declared.draft.Order.{Order}
 use Rattle.sm_reader.specs.declared.draft.Draft.{Draft}
 use Rattle.sm_reader.specs.declared.faults.TextFault.{TextFault}
 use Rattle.sm_reader.specs.declared.faults.TextFault.TheVariants.{Refused, OutOfMemory}
-use Rattle.sm_reader.specs.declared.forms.Form.{Form as Line}
-use Rattle.sm_reader.specs.declared.forms.Form.TheVariants.{Agent as AgentLine, Use as UseLine, Master as MasterLine, Order as OrderLine, Weight as WeightLine, Pair as PairLine}
-use Rattle.sm_reader.specs.declared.forms.Condition.{Condition}
-use Rattle.sm_reader.specs.declared.forms.Condition.TheVariants.{Force, Forbid}
+use Rattle.sm_forms.specs.declared.forms.Form.{Form as Line}
+use Rattle.sm_forms.specs.declared.forms.Form.TheVariants.{Agent as AgentLine, Use as UseLine, Master as MasterLine, Order as OrderLine, Weight as WeightLine, Pair as PairLine}
+use Rattle.sm_forms.specs.declared.forms.Condition.{Condition}
+use Rattle.sm_forms.specs.declared.forms.Condition.TheVariants.{Force, Forbid}
 use Rattle.sm_reader.specs.declared.judging.AgentRuns.{AgentRuns}
 use Rattle.sm_reader.specs.declared.judging.Step.{Step}
 use Rattle.sm_reader.specs.declared.judging.Step.TheVariants.{Goes, Stops}
 use Rattle.sm_reader.specs.declared.judging.Judged.{Judged}
 use Rattle.sm_reader.specs.declared.judging.Judged.TheVariants.{Added, Orders, Ends}
-
--- a form, as plain data
-abbrev pub form_of : Line → Form
-form_of (AgentLine side name capacity entries) = declares side name.now (option_map (λ x. x.now) capacity) (texts_of entries.now)
-form_of (UseLine side name capacity master) = uses side name.now (option_map (λ x. x.now) capacity) master.now
-form_of (MasterLine name entries) = shares name.now (texts_of entries.now)
-form_of (OrderLine proposers) = orders (texts_of proposers.now)
-form_of (WeightLine proposer reviewer weight second) = weighs proposer.now reviewer.now weight.now (option_map (λ x. x.now) second)
-form_of (PairLine condition proposer reviewer) = binds condition proposer.now reviewer.now
-
--- the names with which a line of a form ends, where they are a list
-abbrev pub entries_in : Form → List (List ℕ)
-entries_in (declares side name capacity entries) = entries
-entries_in (uses side name capacity master) = []
-entries_in (shares name entries) = entries
-entries_in (orders proposers) = proposers
-entries_in (weighs proposer reviewer weight second) = []
-entries_in (binds condition proposer reviewer) = []
 
 -- the names of whom the proposers list: of the reviewers, and in roommates of the persons
 abbrev pub listed_table : Kind → Table → Table → Table
@@ -155,15 +137,6 @@ pub record AddsForm (kind : Kind) (line : ℕ) (form : Form) (old new : Draft) :
 abbrev pub JudgesTokens : Kind → (format : ℕ) → ℕ → List (List ℕ) → Draft → Draft → Step → Type 0
 JudgesTokens kind format line tokens old new Goes = (verdict_on kind format (said_of kind old) line tokens ≡ goes (said_of kind new)) × IsDraft kind (line + 1) new
 JudgesTokens kind format line tokens old new Stops = (verdict_on kind format (said_of kind old) line tokens ≡ stops) × (said_of kind new ≡ said_of kind old) × IsDraft kind line new
-
--- the names that an order has are those of a list
-abbrev pub IsOrderOf : List (List ℕ) → Line → Type 0
-IsOrderOf names (OrderLine proposers) = texts_of proposers.now ≡ names
-IsOrderOf names (AgentLine _ _ _ _) = Unit {0}
-IsOrderOf names (UseLine _ _ _ _) = Unit {0}
-IsOrderOf names (MasterLine _ _) = Unit {0}
-IsOrderOf names (WeightLine _ _ _ _) = Unit {0}
-IsOrderOf names (PairLine _ _ _) = Unit {0}
 
 -- a line orders proposers
 abbrev pub IsOrdering : Line → Type 0

@@ -13,9 +13,9 @@ use Rattle.sm_agents.specs.declared.kinds.Side.{Side}
 use Rattle.sm_agents.specs.declared.kinds.Side.TheVariants.{Proposers, Reviewers}
 use Rattle.sm_agents.specs.Named.{SaidAgent, SaidPair, SaidWeight, Said, names_of, master_names, agents_on, all_entries, entries_named, is_given_to}
 use Rattle.sm_keys.specs.Tables.{has_repeated}
-use Rattle.sm_reader.specs.declared.forms.Condition.{Condition}
-use Rattle.sm_reader.specs.declared.forms.Condition.TheVariants.{Force, Forbid}
-use Rattle.sm_reader.specs.Forms.{Form, declares, uses, shares, orders, weighs, binds, form_under, is_end, header_of}
+use Rattle.sm_forms.specs.declared.forms.Condition.{Condition}
+use Rattle.sm_forms.specs.declared.forms.Condition.TheVariants.{Force, Forbid}
+use Rattle.sm_forms.specs.Forms.{Form, declares, uses, shares, orders, weighs, binds, form_under, is_end, header_of}
 use Rattle.sm_keys.specs.Tokens.{is_bad}
 
 -- the fault of the first row of a table whose test holds

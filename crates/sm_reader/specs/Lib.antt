@@ -1,4 +1,3 @@
-pub mod Forms
 pub mod Judging
 pub mod InstanceText
 pub mod Draft

@@ -9,7 +9,7 @@ use Rattle.sm_agents.specs.declared.kinds.Kind.TheVariants.{Marriage, Hospitals}
 use Rattle.sm_agents.specs.declared.kinds.Side.TheVariants.{Proposers, Reviewers}
 use Rattle.sm_instance.specs.declared.inputs.Input.TheVariants.{Two, Room}
 use Rattle.sm_agents.specs.Named.{SaidAgent, Said, nothing}
-use Rattle.sm_reader.specs.Forms.{declares}
+use Rattle.sm_forms.specs.Forms.{declares}
 use Rattle.sm_reader.specs.Judging.{fault_of}
 use Rattle.sm_reader.specs.InstanceText.{instance_text}
 

@@ -11,14 +11,15 @@ ghost use Rattle.sm_keys.specs.Tokens.{is_bad, AreNamesAtEnd};
 ghost use Rattle.sm_reader.specs.Judging.{verdict_on, fault_of, second_in};
 ghost use Rattle.sm_keys.specs.Tables.{has_repeated};
 ghost use Rattle.sm_text.specs.Slices.{texts_of};
-ghost use Rattle.sm_reader.specs.Draft.{said_of, form_of, entries_in, listed_side, table_on, declared_on, IsDraft, AddsForm, AddsBy, IsJudged, IsRefusedBy, IsLineFault, IsLongFault, IsWeighed, run_fault, name_fault, limit_fault, AreRunsRight, DeclaresOn, ListsOn, PutsOn, RefusesFor, AddsAgent, weights_in, weight_fault, PutsWeight, PutsPair, Binds, runs_form};
+ghost use Rattle.sm_reader.specs.Draft.{said_of, listed_side, table_on, declared_on, IsDraft, AddsForm, AddsBy, IsJudged, IsRefusedBy, IsLineFault, IsLongFault, IsWeighed, run_fault, name_fault, limit_fault, AreRunsRight, DeclaresOn, ListsOn, PutsOn, RefusesFor, AddsAgent, weights_in, weight_fault, PutsWeight, PutsPair, Binds, runs_form};
+ghost use Rattle.sm_forms.specs.Forms.{form_of, entries_in};
 
 use crate::draft::{Declared, Draft, Pair, Weights, make_ready};
 use crate::faults::TextFault;
-use crate::forms::{Condition, Form, form_under, is_end};
 use crate::header::Header;
 use crate::masters::{MasterRuns, add_master, master_entries};
 use crate::ordering::check_order;
+use sm_forms::{Condition, Form, form_under, is_end};
 use sm_instance::{Kind, Side};
 use sm_keys::{Found, TextKey, has_repeated};
 use sm_text::{
@@ -242,7 +243,7 @@ pub(crate) fn checked_capacity(
 }
 
 /// Are all these runs names? The last `names` of them are, and no more.
-#[tactic(auto, using(crate::proofs::NameLemmas::all_names))]
+#[tactic(auto, using(sm_forms::proofs::NameLemmas::all_names))]
 pub(crate) fn are_names(runs: &[&[u8]], names: usize) -> bool
     requires { AreNamesAtEnd names (texts_of runs.now) }
     ensures { result ≡ list_all is_a_name (texts_of runs.now) }

@@ -7,7 +7,6 @@
 
 mod draft;
 mod faults;
-mod forms;
 mod header;
 mod judging;
 pub mod laws;

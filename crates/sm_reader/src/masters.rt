@@ -6,7 +6,7 @@ ghost use Rattle.std.specs.Str.{bytes_eq};
 ghost use Rattle.sm_text.specs.Limits.{most_entries};
 ghost use Rattle.sm_text.specs.Slices.{texts_of};
 ghost use Rattle.sm_agents.specs.Named.{entries_named};
-ghost use Rattle.sm_reader.specs.Forms.{shares};
+ghost use Rattle.sm_forms.specs.Forms.{shares};
 ghost use Rattle.sm_reader.specs.Judging.{fault_of};
 ghost use Rattle.sm_keys.specs.Tables.{has_repeated};
 ghost use Rattle.sm_keys.specs.Tokens.{AreNamesAtEnd};

@@ -18,11 +18,11 @@ ghost use Rattle.sm_reader.specs.Reading.{IsHeaded, IsFaultOf, heading_is, IsHea
 
 use crate::draft::{Draft, Order, empty};
 use crate::faults::TextFault;
-use crate::forms::header_of;
 use crate::header::Header;
 use crate::judging::{Judged, Step, judge};
 use crate::listed::{add_line, agent_line};
 use crate::numbering::{first_unknown, numbered_persons, numbered_sides};
+use sm_forms::header_of;
 use sm_instance::{Input, Instance, Kind, Persons};
 use sm_keys::{cut_enough, line_from};
 use sm_text::{MOST_BYTES, RefusalKind, TextHash};

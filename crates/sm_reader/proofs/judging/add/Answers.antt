@@ -3,7 +3,8 @@ use Rattle.std.specs.Borrow.{Bor}
 use Rattle.std.specs.Option.{option_map}
 use Rattle.sm_reader.specs.Judging.{fault_of}
 use Rattle.sm_text.specs.Slices.{texts_of}
-use Rattle.sm_reader.specs.Draft.{said_of, form_of, IsMaster, AddsForm, AddsBy, IsLineFault}
+use Rattle.sm_reader.specs.Draft.{said_of, IsMaster, AddsForm, AddsBy, IsLineFault}
+use Rattle.sm_forms.specs.Forms.{form_of}
 use Rattle.sm_reader.specs.declared.judging.Judged.TheVariants.{Orders}
 use Rattle.sm_reader.proofs.JudgeLemmas.{fault_of-weighs}
 use Rattle.sm_reader.proofs.PairLemmas.{weight_added, condition_added, pair_refused}

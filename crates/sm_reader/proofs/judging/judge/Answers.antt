@@ -2,16 +2,17 @@ use Rattle.std.proofs.Common.{◌≡◌, ℕ, List, [], drop, get_or, ◌∙◌,
 use Rattle.std.specs.Borrow.{Bor}
 use Rattle.std.specs.Option.{option_map}
 use Rattle.std.proofs.lemmas.List.{take_rest, drop-map}
-use Rattle.sm_reader.specs.Forms.{form_under}
+use Rattle.sm_forms.specs.Forms.{form_under}
 use Rattle.sm_reader.specs.Judging.{of_form, verdict_on}
 use Rattle.sm_keys.specs.Tokens.{AreNamesAtEnd}
 use Rattle.sm_text.specs.Slices.{texts_of}
-use Rattle.sm_reader.specs.Draft.{said_of, form_of, IsOrderOf, IsJudged, IsRefusedBy}
+use Rattle.sm_reader.specs.Draft.{said_of, IsJudged, IsRefusedBy}
+use Rattle.sm_forms.specs.Forms.{form_of, IsOrderOf}
 use Rattle.sm_reader.proofs.JudgeLemmas.{verdict_empty, verdict_bad, verdict_end, verdict_form, judged_by, refused_line}
 use Rattle.sm_reader.proofs.DraftLemmas.{draft_later}
 use Rattle.sm_reader.proofs.ResultLemmas.{if_ok, if_err}
-use Rattle.sm_reader.proofs.FormLemmas.{listed}
-use Rattle.sm_reader.proofs.NameLemmas.{names_rest, form_names}
+use Rattle.sm_forms.proofs.FormLemmas.{listed}
+use Rattle.sm_forms.proofs.NameLemmas.{names_rest, form_names}
 use Rattle.sm_reader.proofs.judging.judge.Goals as goal
 
 pub form_under-requires : goal.form_under-requires

@@ -1,6 +1,6 @@
 use Rattle.sm_text.specs.Slices.{texts_of}
 use Rattle.sm_agents.specs.declared.kinds.Kind.{Kind}
-use Rattle.sm_reader.specs.Forms.{shares}
+use Rattle.sm_forms.specs.Forms.{shares}
 use Rattle.sm_reader.specs.Judging.{fault_of}
 use Rattle.sm_reader.specs.Draft.{said_of, IsDraft, IsLineFault}
 use Rattle.sm_reader.specs.declared.faults.TextFault.{TextFault}

@@ -5,8 +5,8 @@ use Rattle.std.proofs.lemmas.List.{get_or_default}
 use Rattle.sm_text.specs.Tokens.{begins_run}
 use Rattle.sm_keys.proofs.PositionLemmas.{all_texts_fail, all_texts_more, all_texts_end}
 use Rattle.sm_text.specs.Slices.{texts_of}
-use Rattle.sm_reader.proofs.NameLemmas.{all_names, names_begin}
-use Rattle.sm_reader.proofs.forms.are_runs.Goals as goal
+use Rattle.sm_forms.proofs.NameLemmas.{all_names, names_begin}
+use Rattle.sm_forms.proofs.forms.are_runs.Goals as goal
 
 pub returns-then-tokens-names : goal.returns-then-tokens-names
 returns-then-tokens-names c = sym (names_begin (texts_of c.args.tokens.now) (all_names c.args.names c.args.tokens.now c.requires ∙ grind (arith, nat_tests, c.if-tokens-names.true)))

@@ -5,24 +5,24 @@ ghost use Rattle.std.specs.Option.{option_map};
 ghost use Rattle.std.specs.List.{list_all};
 ghost use Rattle.std.specs.Str.{bytes_eq};
 ghost use Rattle.sm_text.specs.Tokens.{begins_run};
-ghost use Rattle.sm_reader.specs.Forms.{list_form, capacity_form, weight_form, pair_form, reviewer_form, two_sided_form, form_behind, is_end, header_of, kind_named, format_named, are_brackets, master_form, use_form, capacity_use_form, reviewer_use_form, order_form, second_form, two_sided_added_form, added_form, form_under};
+ghost use Rattle.sm_forms.specs.Forms.{list_form, capacity_form, weight_form, pair_form, reviewer_form, two_sided_form, form_behind, is_end, header_of, kind_named, format_named, are_brackets, master_form, use_form, capacity_use_form, reviewer_use_form, order_form, second_form, two_sided_added_form, added_form, form_under};
 ghost use Rattle.sm_keys.specs.Tokens.{AreNamesAtEnd};
 ghost use Rattle.sm_text.specs.Slices.{texts_of};
-ghost use Rattle.sm_reader.specs.Draft.{form_of, IsOrderOf};
+ghost use Rattle.sm_forms.specs.Forms.{form_of, IsOrderOf};
 
 use sm_instance::{Kind, Side};
 use sm_keys::is_run;
 
 /// What a line asks of a pair: to be held, or not to be.
 #[derive(Clone, Copy)]
-pub(crate) enum Condition {
+pub enum Condition {
     Force,
     Forbid,
 }
 
 /// A line by its form, with the runs that stand in the positions of names and numbers.
 #[derive(Clone, Copy)]
-pub(crate) enum Form<'a, 'b> {
+pub enum Form<'a, 'b> {
     Agent {
         side: Side,
         name: &'a [u8],
@@ -58,9 +58,9 @@ pub(crate) enum Form<'a, 'b> {
     },
 }
 
-/// The kind of instance and the format that a header names, `None` where the tokens make no header.
+/// The kind of instance and the format that a header names, `None` where the tokens make no header. Takes constant time.
 #[tactic(auto, unfolding(crate::specs::Forms::header_of))]
-pub(crate) fn header_of(tokens: &[&[u8]]) -> Option<(Kind, u32)>
+pub fn header_of(tokens: &[&[u8]]) -> Option<(Kind, u32)>
     ensures { result ≡ header_of (texts_of tokens.now) }
 {
     match tokens {
@@ -103,7 +103,7 @@ fn kind_named(word: &[u8]) -> Option<Kind>
 
 /// Do the tokens make the line that ends an instance?
 #[tactic(auto, unfolding(crate::specs::Forms::is_end))]
-pub(crate) fn is_end(tokens: &[&[u8]]) -> bool
+pub fn is_end(tokens: &[&[u8]]) -> bool
     ensures { result ≡ is_end (texts_of tokens.now) }
 {
     match tokens {
@@ -113,9 +113,9 @@ pub(crate) fn is_end(tokens: &[&[u8]]) -> bool
 }
 
 /// The form of a line that begins with a word, under a header of this kind and format; `None` where it has none. The last
-/// `names` tokens behind the word are names, and no more.
+/// `names` tokens behind the word are names, and no more. Takes time in the number of the tokens before these.
 #[tactic(auto, unfolding(crate::specs::Forms::form_under))]
-pub(crate) fn form_under<'a, 'b>(
+pub fn form_under<'a, 'b>(
     kind: Kind,
     format: u32,
     word: &'a [u8],
@@ -468,7 +468,7 @@ fn are_runs(tokens: &[&[u8]], names: usize) -> bool
 }
 
 /// Is the token this text?
-pub(crate) fn is(token: &[u8], text: &[u8]) -> bool
+pub fn is(token: &[u8], text: &[u8]) -> bool
     ensures { result ≡ bytes_eq token.now text.now }
 {
     token == text

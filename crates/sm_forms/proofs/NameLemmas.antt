@@ -7,11 +7,11 @@ use Rattle.std.proofs.lemmas.List.{take_rest, drop-drop, drop-map, drop_all, len
 use Rattle.sm_text.specs.Name.{is_name, is_name_byte}
 use Rattle.sm_text.specs.Tokens.{begins_run}
 use Rattle.sm_agents.specs.declared.kinds.Kind.{Kind}
-use Rattle.sm_reader.specs.Forms.{form_under}
+use Rattle.sm_forms.specs.Forms.{form_under}
 use Rattle.sm_keys.specs.Tokens.{AreNamesAtEnd}
 use Rattle.sm_text.specs.Slices.{texts_of}
 use Rattle.sm_keys.proofs.WholeLemmas.{and_left, and_right}
-use Rattle.sm_reader.proofs.FormLemmas.{listed, list_under}
+use Rattle.sm_forms.proofs.FormLemmas.{listed, list_under}
 
 module _ (names : ℕ) where
   -- they are the names at the end of what stands behind some of the tokens

@@ -1,5 +1,5 @@
 -- The forms of lines, over their tokens.
-use Rattle.std.specs.Prelude.{if◌then◌else◌, ℕ, ◌==◌, ◌&&◌, Bool, true, false, List, [], ◌∷◌, Option, Some, None, codes}
+use Rattle.std.specs.Prelude.{if◌then◌else◌, ◌≡◌, ℕ, ◌==◌, ◌&&◌, Bool, true, false, List, [], ◌∷◌, Option, Some, None, codes}
 use Rattle.std.specs.List.{list_all}
 use Rattle.std.specs.Option.{option_or, option_map, option_and_then}
 use Rattle.std.specs.Str.{bytes_eq}
@@ -9,8 +9,11 @@ use Rattle.sm_agents.specs.declared.kinds.Kind.{Kind}
 use Rattle.sm_agents.specs.declared.kinds.Kind.TheVariants.{Marriage, Hospitals, Roommates}
 use Rattle.sm_agents.specs.declared.kinds.Side.{Side}
 use Rattle.sm_agents.specs.declared.kinds.Side.TheVariants.{Proposers, Reviewers}
-use Rattle.sm_reader.specs.declared.forms.Condition.{Condition}
-use Rattle.sm_reader.specs.declared.forms.Condition.TheVariants.{Force, Forbid}
+use Rattle.sm_forms.specs.declared.forms.Condition.{Condition}
+use Rattle.sm_forms.specs.declared.forms.Condition.TheVariants.{Force, Forbid}
+use Rattle.sm_forms.specs.declared.forms.Form.{Form as Line}
+use Rattle.sm_forms.specs.declared.forms.Form.TheVariants.{Agent as AgentLine, Use as UseLine, Master as MasterLine, Order as OrderLine, Weight as WeightLine, Pair as PairLine}
+use Rattle.sm_text.specs.Slices.{texts_of}
 
 -- A line by its form, with the runs that stand in the positions of names and of numbers: it declares an agent with a list, or
 -- one that has a master list; it declares a master list; it says which proposers come first; it weighs a pair; or it asks
@@ -154,3 +157,30 @@ unfoldable pub header_of : List (List ℕ) → Option (Kind × ℕ)
 header_of (word ∷ format ∷ kind ∷ []) =
     if bytes_eq word (codes "stable") then option_and_then (λ n. option_map (λ k. (k, n)) (kind_named kind)) (format_named format) else None
 header_of _ = None
+
+-- a form, as plain data
+abbrev pub form_of : Line → Form
+form_of (AgentLine side name capacity entries) = declares side name.now (option_map (λ x. x.now) capacity) (texts_of entries.now)
+form_of (UseLine side name capacity master) = uses side name.now (option_map (λ x. x.now) capacity) master.now
+form_of (MasterLine name entries) = shares name.now (texts_of entries.now)
+form_of (OrderLine proposers) = orders (texts_of proposers.now)
+form_of (WeightLine proposer reviewer weight second) = weighs proposer.now reviewer.now weight.now (option_map (λ x. x.now) second)
+form_of (PairLine condition proposer reviewer) = binds condition proposer.now reviewer.now
+
+-- the names with which a line of a form ends, where they are a list
+abbrev pub entries_in : Form → List (List ℕ)
+entries_in (declares side name capacity entries) = entries
+entries_in (uses side name capacity master) = []
+entries_in (shares name entries) = entries
+entries_in (orders proposers) = proposers
+entries_in (weighs proposer reviewer weight second) = []
+entries_in (binds condition proposer reviewer) = []
+
+-- the names that an order has are those of a list
+abbrev pub IsOrderOf : List (List ℕ) → Line → Type 0
+IsOrderOf names (OrderLine proposers) = texts_of proposers.now ≡ names
+IsOrderOf names (AgentLine _ _ _ _) = Unit {0}
+IsOrderOf names (UseLine _ _ _ _) = Unit {0}
+IsOrderOf names (MasterLine _ _) = Unit {0}
+IsOrderOf names (WeightLine _ _ _ _) = Unit {0}
+IsOrderOf names (PairLine _ _ _) = Unit {0}

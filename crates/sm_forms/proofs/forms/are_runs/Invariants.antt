@@ -2,7 +2,7 @@ use Rattle.std.proofs.Common.{◌≡◌, true, take}
 use Rattle.std.specs.List.{list_all}
 use Rattle.sm_text.specs.Tokens.{begins_run}
 use Rattle.sm_text.specs.Slices.{texts_of}
-use Rattle.sm_reader.proofs.forms.are_runs.Given as goal
+use Rattle.sm_forms.proofs.forms.are_runs.Given as goal
 
 -- all tokens so far are runs
 abbrev pub invariant-tokens : goal.invariant-tokens

@@ -1,0 +1,6 @@
+//! The forms of the lines of an instance's text.
+#![tactic(auto)]
+
+mod forms;
+
+pub use forms::{Condition, Form, form_under, header_of, is, is_end};
