@@ -3,7 +3,6 @@
 ghost use Rattle.std.specs.Prelude.{◌≡◌, IfSome};
 ghost use Rattle.std.specs.Option.{option_map};
 ghost use Rattle.std.specs.List.{list_all};
-ghost use Rattle.std.specs.Str.{bytes_eq};
 ghost use Rattle.sm_text.specs.Tokens.{begins_run};
 ghost use Rattle.sm_forms.specs.Forms.{list_form, capacity_form, weight_form, pair_form, reviewer_form, two_sided_form, form_behind, is_end, header_of, kind_named, format_named, are_brackets, master_form, use_form, capacity_use_form, reviewer_use_form, order_form, second_form, two_sided_added_form, added_form, form_under};
 ghost use Rattle.sm_keys.specs.Tokens.{AreNamesAtEnd};
@@ -12,17 +11,22 @@ ghost use Rattle.sm_forms.specs.Forms.{form_of, IsOrderOf};
 
 use sm_instance::{Kind, Side};
 use sm_keys::is_run;
+use sm_text::is;
 
 /// What a line asks of a pair: to be held, or not to be.
 #[derive(Clone, Copy)]
 pub enum Condition {
+    /// The pair has to be held.
     Force,
+    /// The pair must not be held.
     Forbid,
 }
 
-/// A line by its form, with the runs that stand in the positions of names and numbers.
+/// A line by its form, with the runs that stand in the positions of names and numbers. A run may be no name and no number:
+/// that is judged behind the form.
 #[derive(Clone, Copy)]
 pub enum Form<'a, 'b> {
+    /// An agent with its list, and the capacity of a hospital where it is written.
     Agent {
         side: Side,
         name: &'a [u8],
@@ -45,12 +49,14 @@ pub enum Form<'a, 'b> {
     Order {
         proposers: &'b [&'a [u8]],
     },
+    /// The weight of a pair, and its second weight where it is written.
     Weight {
         proposer: &'a [u8],
         reviewer: &'a [u8],
         weight: &'a [u8],
         second: Option<&'a [u8]>,
     },
+    /// A pair of which something is asked.
     Pair {
         condition: Condition,
         proposer: &'a [u8],
@@ -101,7 +107,7 @@ fn kind_named(word: &[u8]) -> Option<Kind>
     }
 }
 
-/// Do the tokens make the line that ends an instance?
+/// Do the tokens make the line that ends an instance? Takes constant time.
 #[tactic(auto, unfolding(crate::specs::Forms::is_end))]
 pub fn is_end(tokens: &[&[u8]]) -> bool
     ensures { result ≡ is_end (texts_of tokens.now) }
@@ -465,11 +471,4 @@ fn are_runs(tokens: &[&[u8]], names: usize) -> bool
         }
     }
     true
-}
-
-/// Is the token this text?
-pub fn is(token: &[u8], text: &[u8]) -> bool
-    ensures { result ≡ bytes_eq token.now text.now }
-{
-    token == text
 }

@@ -3,4 +3,4 @@
 
 mod forms;
 
-pub use forms::{Condition, Form, form_under, header_of, is, is_end};
+pub use forms::{Condition, Form, form_under, header_of, is_end};

@@ -7,8 +7,8 @@ ghost use Rattle.sm_text.specs.Tokens.{tokens};
 ghost use Rattle.sm_keys.specs.Tokens.{is_bad, AreNamesAtEnd};
 ghost use Rattle.sm_keys.specs.Enough.{AreEnough, StandsTwice};
 
-use crate::tokens::{Found, cut, is, token_from};
-use sm_text::is_name;
+use crate::tokens::{Found, cut, token_from};
+use sm_text::{is, is_name};
 use std::alloc::{AllocError, Global};
 use std::mem::swap;
 

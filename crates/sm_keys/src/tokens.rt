@@ -5,13 +5,14 @@ ghost use Rattle.std.specs.List.{list_any, list_all};
 ghost use Rattle.sm_text.specs.Limits.{most_name_bytes};
 ghost use Rattle.sm_text.specs.Name.{is_name as is_a_name, is_name_byte, begins_name};
 ghost use Rattle.sm_text.specs.Tokens.{tokens, begins_run, token_at, run_end, IsLeading, LeadsTokens};
-ghost use Rattle.std.specs.Str.{bytes_eq};
 ghost use Rattle.sm_keys.specs.Tokens.{is_bad, LeadsLines, AreNamesAtEnd};
 ghost use Rattle.sm_keys.specs.Lines.{BeginsList};
 ghost use Rattle.sm_text.specs.Slices.{texts_of};
 
 use crate::long::LONG;
-use sm_text::{LineSpan, MOST_NAME_BYTES, TokenAt, begins_name, is_name_byte, line_at, token_at};
+use sm_text::{
+    LineSpan, MOST_NAME_BYTES, TokenAt, begins_name, is, is_name_byte, line_at, token_at,
+};
 use std::alloc::AllocError;
 
 /// What the tokens of a line were found to be.
@@ -281,13 +282,6 @@ pub fn is_run(token: &[u8]) -> bool
         [first, ..] => is_name_byte(*first),
         [] => false,
     }
-}
-
-/// Is the token this text?
-pub(crate) fn is(token: &[u8], text: &[u8]) -> bool
-    ensures { result ≡ bytes_eq token.now text.now }
-{
-    token == text
 }
 
 /// Is this run, which is name bytes all through, a name?

@@ -11,10 +11,9 @@ ghost use Rattle.sm_reader.specs.Listed.{side_by, DeclaresSide, IsAgentLine, Lis
 use crate::draft::{Declared, Draft};
 use crate::faults::TextFault;
 use crate::judging::{beyond, declare, listed_side, put_agent};
-use sm_forms::is;
 use sm_instance::{Kind, Side};
 use sm_keys::{Head, head_of};
-use sm_text::MOST_ENTRIES;
+use sm_text::{MOST_ENTRIES, is};
 use std::alloc::{AllocError, Global};
 
 /// The line of an agent, up to its list.

@@ -4,12 +4,11 @@ ghost use Rattle.std.specs.Prelude.{◌≡◌};
 ghost use Rattle.sm_report.specs.Meanings.{number_within, left_in, rotation_in, seat_in, numbered_seat_in, end_in, reason_in, right_in};
 
 use crate::fields::{SINK, SOURCE};
-use crate::fields_of::is;
 use crate::lines::Seat;
 use crate::reasons::reason_place;
 use crate::vectors::cut_at;
 use sm_instance::{Input, Kind};
-use sm_text::number;
+use sm_text::{is, number};
 
 /// The greatest number of a rotation.
 pub(crate) const MOST_ROTATION: u32 = u32::MAX - 1;

@@ -1,10 +1,10 @@
 //! The fields of a text.
 
 ghost use Rattle.std.specs.Prelude.{◌≡◌, IfOk, MatchOption, Some, None};
-ghost use Rattle.std.specs.Str.{bytes_eq};
 ghost use Rattle.sm_report.specs.Meanings.{fields_in, one_of, two_of, three_of, headed_of, items_in};
 ghost use Rattle.sm_text.specs.Slices.{texts_of};
 
+use sm_text::is;
 use std::alloc::{AllocError, Global};
 
 /// Cuts a text into its fields, between which single spaces stand.
@@ -12,13 +12,6 @@ pub(crate) fn fields_in(alloc: Global, text: &[u8]) -> Result<Vec<&[u8]>, AllocE
     ensures { IfOk result (λ fields. texts_of fields.items ≡ fields_in text.now) }
 {
     text.split(|b| *b == b' ').collect(alloc)
-}
-
-/// Is the field this text?
-pub(crate) fn is(field: &[u8], text: &[u8]) -> bool
-    ensures { result ≡ bytes_eq field.now text.now }
-{
-    field == text
 }
 
 /// The field, where there is one.

@@ -5,11 +5,11 @@ ghost use Rattle.sm_report.specs.Heads.{head_of};
 ghost use Rattle.sm_report.specs.Meanings.{behind_word, limit_in, after_in, bare_head_in, side_in, measure_in, operand_head_in, list_head_in, head_in};
 ghost use Rattle.sm_text.specs.Slices.{texts_of};
 
-use crate::fields_of::is;
 use crate::heads::Head;
 use crate::values::{limit_named, measure_named, side_named};
 use crate::vectors::vector_in;
 use sm_instance::{Kind, Measure, Side};
+use sm_text::is;
 use std::alloc::{AllocError, Global};
 
 /// What the fields behind `answer` say: a command with its operands.

@@ -5,8 +5,8 @@ ghost use Rattle.sm_report.specs.Keywords.{keyword_of};
 ghost use Rattle.sm_report.specs.Lines.{line_of};
 ghost use Rattle.sm_report.specs.Meanings.{look_up, keywords};
 
-use crate::fields_of::is;
 use crate::lines::Line;
+use sm_text::is;
 
 /// The keyword with which a line begins: what kind of line it is.
 #[derive(Clone, Copy, Debug, PartialEq, Eq)]

@@ -4,9 +4,8 @@ ghost use Rattle.std.specs.Prelude.{◌≡◌};
 ghost use Rattle.sm_report.specs.Meanings.{look_up, sides, measures, limit_named};
 
 use crate::field_readers::number_within;
-use crate::fields_of::is;
 use sm_instance::{Measure, Side};
-use sm_text::MOST_LIMIT;
+use sm_text::{MOST_LIMIT, is};
 
 /// The least limit.
 const LEAST_LIMIT: u32 = 1;

@@ -5,8 +5,7 @@ ghost use Rattle.std.specs.List.{slice_split, position, position_or_len, before_
 ghost use Rattle.sm_text.specs.Numbers.{number_of};
 ghost use Rattle.sm_report.specs.Vectors.{most_in_vector, is_comma, numbers_in, vector_in};
 
-use crate::fields_of::is;
-use sm_text::number;
+use sm_text::{is, number};
 use std::alloc::{AllocError, Global};
 
 /// The vector that a text spells: `-` for the one without numbers, and else one or more numbers of at most 4,294,967,295

@@ -25,5 +25,5 @@ pub use numbers::{number, signed};
 pub use refusal::RefusalKind;
 pub use spaced_name::SpacedName;
 pub use text_hash::{Digest, TextHash};
-pub use tokens::{TokenAt, token_at};
+pub use tokens::{TokenAt, is, token_at};
 pub use writer::LineWriter;

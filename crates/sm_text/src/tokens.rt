@@ -1,6 +1,7 @@
 //! Tokens of lines.
 
 ghost use Rattle.std.specs.Prelude.{◌≡◌, ◌≤◌, length};
+ghost use Rattle.std.specs.Str.{bytes_eq};
 ghost use Rattle.sm_text.specs.Tokens.{token_at, LeadsTokens, blanks_end, run_end, is_blank, is_mark};
 
 use crate::names::is_name_byte;
@@ -37,6 +38,13 @@ pub fn token_at(line: &[u8], from: usize) -> TokenAt
         b if is_mark(b) => TokenAt::Mark(at),
         _ => TokenAt::Bad(at),
     }
+}
+
+/// Is the token this text? Takes time in the bytes of the text.
+pub fn is(token: &[u8], text: &[u8]) -> bool
+    ensures { result ≡ bytes_eq token.now text.now }
+{
+    token == text
 }
 
 /// Where the blanks end that begin at a place.

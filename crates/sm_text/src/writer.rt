@@ -206,8 +206,8 @@ fn make_ready(bytes: &mut Vec<u8>, len: usize, more: usize) -> Result<usize, All
 /// Most lines have fewer bytes, even with a name of sixteen put behind them.
 const USUAL: usize = 128;
 
-/// Adds bytes to write over, up to a place at least: as many as there are, so that the time is in proportion to what is put, and enough
-/// for most lines, but no more than there is room for.
+/// Adds bytes to write over, up to a place at least: as many as there are, so that the time is in proportion to what is put, and
+/// enough for most lines, but no more than there is room for.
 #[inline(never)]
 fn fill_up(bytes: &mut Vec<u8>, to: usize) -> Result<(), AllocError>
     requires further { vec_len bytes.old < to }
