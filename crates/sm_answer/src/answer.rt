@@ -93,7 +93,7 @@ pub trait Numbered {
         ensures { IfOk result (λ found. option_map line_of found ≡ line self.now at) };
 }
 
-/// The lines of items, from one on.
+/// The lines of items from the one with the number `next` on, counted from 0.
 #[derive(Drop)]
 pub struct Each<T: Numbered> {
     pub items: T,

@@ -28,7 +28,8 @@ pub type ChosenLines<'a> = Printed<
     >,
 >;
 
-/// The head, the pairs of the two matchings and of the chosen one, each in the order of the proposers, and `end`.
+/// The head, the pairs of the two matchings and of the chosen one, each in the order of the proposers, and `end`. Takes constant
+/// time; the lines together take time linear in what they show.
 pub fn chosen_lines<'a>(
     input: &'a Input,
     instance: &'a Instance,

@@ -20,7 +20,8 @@ use sm_report::{Head, Line};
 /// couples or the parties, and `end`.
 pub type RoomLines<'a, T> = Printed<'a, Then<One, Then<One, Then<Each<T>, One>>>>;
 
-/// The head, the couples of a stable matching, and `end`.
+/// The head, the couples of a stable matching, and `end`. Takes constant time; the lines together take time linear in what they
+/// show.
 pub fn couple_lines<'a>(
     input: &'a Input,
     persons: &Persons,
@@ -37,7 +38,8 @@ pub fn couple_lines<'a>(
     room_lines(input, None, CoupleLines { mates })
 }
 
-/// The head, `none`, the parties of a stable partition that has an odd one of three or more, and `end`.
+/// The head, `none`, the parties of a stable partition that has an odd one of three or more, and `end`. Takes constant time; the
+/// lines together take time linear in what they show.
 pub fn party_lines<'a>(
     input: &'a Input,
     persons: &Persons,

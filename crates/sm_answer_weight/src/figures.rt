@@ -11,14 +11,16 @@ use sm_report::Line;
 use sm_theory::FlowLine;
 use std::alloc::{AllocError, Global};
 
-/// Of which of two flows.
+/// Which of the two flows of an answer.
 #[derive(Clone, Copy)]
 pub enum Level {
+    /// The first flow, by weights.
     First,
+    /// The second flow, by second weights.
     Second,
 }
 
-/// The lines of a flow, from one on.
+/// The lines of a flow from the one with the number `next` on, counted from 0.
 #[derive(Drop)]
 pub struct FlowLines<'a> {
     pub found: &'a Lightest,

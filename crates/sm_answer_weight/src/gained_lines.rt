@@ -18,7 +18,8 @@ pub enum RotationPart {
     SecondGain,
 }
 
-/// The lines for each rotation from one on: its pairs, what it needs, its gain, and in two levels its second gain.
+/// The lines for each rotation from the one with the number `next` on, counted from 0: its pairs, what it needs, its gain, and in
+/// two levels its second gain.
 #[derive(Drop)]
 pub struct GainedLines<'a> {
     pub rows: Rotations<'a>,

@@ -113,7 +113,7 @@ impl Persons {
         put_name_at(into, &self.persons, &self.spaced, q)
     }
 
-    /// The number of the person with a name, `None` where there is none.
+    /// The number of the person with a name, `None` where there is none. Takes time in the length of the name.
     pub fn find(&self, name: &[u8]) -> Option<u32>
         ensures number { result ≡ position (bytes_eq name.now) (names_of self.now) }
         ensures in_range { IfSome result (λ n. n < length self.now) }

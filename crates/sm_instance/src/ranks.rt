@@ -14,7 +14,8 @@ impl Instance {
     /// Writes for each proposer the rank of its partner, or one more than the length of its list where it is unmatched.
     /// Ranks are written places counted from 1, so inert entries count.
     ///
-    /// [`Instance::breach`] has to be `None`, and `into` has to have one item for each proposer.
+    /// [`Instance::breach`] has to be `None`, and `into` has to have one item for each proposer. Takes time in proportion to the
+    /// proposers.
     pub fn rank_vector(&self, a: &Assignment, into: &mut [u32])
         requires matching { IsMatching self.now a.now.places.items }
         requires one_each { length into.old ≡ length self.now.proposers }

@@ -8,7 +8,6 @@ ghost use Rattle.sm_lattice.specs.Counts.{AreCountsOf};
 /// them stands so often among them as its count says, and the place is among them.
 ///
 /// Takes no memory, and time in proportion to the counts.
-
 pub fn number_at_place(counts: &[u32], place: u32) -> u32
     requires { length counts.now < 2 ^ 32 }
     ensures { (numbers : List ℕ) → AreCountsOf numbers counts.now → 0 < place → place
@@ -25,7 +24,7 @@ pub fn number_at_place(counts: &[u32], place: u32) -> u32
     counts.len() as u32
 }
 
-/// Counts one number more.
+/// Counts one number more: `counts` says for each number, from 0, how often it stands. Takes constant time.
 #[tactic(auto, using(crate::proofs::UpTo::counts_more))]
 pub fn count_number(counts: &mut [u32], number: u32)
     requires in_range { number < length counts.old }

@@ -6,7 +6,8 @@ ghost use Rattle.sm_theory.specs.Medians.{median_set};
 
 use std::alloc::{AllocError, Global};
 
-/// Counts one more set: each of its members is in one set more.
+/// Counts one more set: each of its members is in one set more. `holds` says for each rotation, by its number from 0, how many
+/// sets have it. Takes time in proportion to the rotations.
 pub fn count_members(holds: &mut [u32], members: &[bool])
     requires each { length members.now ≡ length holds.old }
     requires few { All (λ h. h + 1 < 2 ^ 32) holds.old }
@@ -19,8 +20,12 @@ pub fn count_members(holds: &mut [u32], members: &[bool])
     }
 }
 
-/// The rotations that more than half of `total` sets have, or half of an even number less none: those whose matching stands in
-/// the middle.
+/// The rotations that more than half of `total` sets have: those whose matching stands in the middle. Takes time and memory in
+/// proportion to the rotations.
+///
+/// # Errors
+///
+/// `AllocError` where memory ran out, and only then.
 pub fn many_members(alloc: Global, holds: &[u32], total: u32) -> Result<Vec<bool>, AllocError>
     ensures { IfOk result (λ members. members.items ≡ median_set holds.now total) }
 {

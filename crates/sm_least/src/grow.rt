@@ -201,7 +201,8 @@ fn lift(course: &Course, gates: &Gates, held: &mut Held, p: u32, wanted: u64, ba
     true
 }
 
-/// Looks for the least set that fits, from the empty one on. True where there is one, which is held then.
+/// Looks for the least set that fits, from the empty one on. True where there is one, which is held then. Takes no memory, and
+/// time in proportion to the stays and to what is held before and after.
 pub fn find(course: &Course, gates: &Gates, held: &mut Held) -> bool
     requires held { IsHeld course.now.board held.old }
     requires gates { AreGatesOf course.now.board gates.now }
@@ -236,7 +237,9 @@ fn grow_all(course: &Course, gates: &Gates, held: &mut Held) -> bool
 }
 
 /// Looks for the least set that fits, has what is held and gives a proposer a level or a higher one. Where it changes no level
-/// before the bar it is held now, and otherwise what was held.
+/// before the bar it is held now, and otherwise what was held. Proposers and positions of the order are numbered from 0.
+///
+/// Takes no memory, and time in proportion to what enters, its needs and the proposers that it moves.
 pub fn raise(course: &Course, gates: &Gates, held: &mut Held, p: u32, wanted: u64, bar: u32) -> bool
     requires held { IsHeld course.now.board held.old }
     requires fits { Fits course.now.board gates.now held.old.set }

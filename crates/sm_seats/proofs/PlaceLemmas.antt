@@ -1,5 +1,5 @@
 -- The places of seats and their weights.
-use Rattle.std.proofs.Common.{◌≡◌, ℕ, ◌^◌, ◌<◌, ◌≤◌, ◌∙◌, ℤ, pos, All, List, [], Option, Some, length, get_or, sym, ap, subst, arith, inl, inr}
+use Rattle.std.proofs.Common.{◌≡◌, ℕ, ◌^◌, ◌-◌, ◌<◌, ◌≤◌, ◌∙◌, ℤ, pos, All, List, [], Option, Some, length, get_or, sym, ap, subst, arith, inl, inr}
 use Rattle.std.specs.Int.RustNames.{unsigned_abs}
 use Rattle.std.proofs.lemmas.Bool.{cases_lt}
 use Rattle.std.proofs.lemmas.List.{get_or_past}
@@ -8,11 +8,11 @@ use Rattle.std.proofs.lemmas.List.FromFn.{get_or-map-range_with_len, length-map-
 use Rattle.sm_lists.proofs.PlaceLemmas.{get_or-place_on}
 use Rattle.sm_agents.specs.Written.{Written, row as written_row, entry, IsAcceptable}
 use Rattle.sm_agents.specs.Sound.{IsInstance}
-use Rattle.sm_market.specs.Lists.{Lists}
+use Rattle.sm_market.specs.Lists.{Lists, row}
 use Rattle.sm_theory.specs.Weights.{weight_at}
-use Rattle.sm_seats.specs.Seating.{Seating, seating_of, at_places}
+use Rattle.sm_seats.specs.Seating.{Seating, seating_of, at_places, levels_of}
 use Rattle.sm_seats.specs.Correspondence.{weights_by}
-use Rattle.sm_seats.proofs.SeatingLemmas.{length-at_places}
+use Rattle.sm_seats.proofs.SeatingLemmas.{length-at_places, place_read}
 use Rattle.sm_seats.proofs.SeatPlaces.{seat_on}
 use Rattle.sm_seats.proofs.MutualLemmas.{mutual_acceptable}
 use Rattle.sm_seats.proofs.WrittenLemmas.{written_place-seating}
@@ -26,6 +26,11 @@ are_acceptable {w} {s} instance is p = subst (λ (s : Seating). AreAcceptableAt 
     let seat = seat_on (sound_entries instance) p i on in
     let both = mutual_acceptable seat.at.mutual_ in
     subst (IsAcceptable w p) (sym (ap (entry w.proposers p) (written_place-seating seat.at) ∙ get_or-place_on (written_row w.proposers p) seat.reviewer both.proposer_lists)) both)
+
+-- so is the entry that a level leads to, which is one more than its place
+pub acceptable_read : (w : Written) (s : Seating) (p i : ℕ) {levels : List ℕ} → AreAcceptableAt w s p → levels ≡ row (levels_of s) p → i < length (row s.market.proposers p)
+    → IsAcceptable w p (entry w.proposers p (get_or levels i 0 - 1))
+acceptable_read w s p i accepts same on = subst (λ k. IsAcceptable w p (entry w.proposers p k)) (sym (place_read s p i same on)) (accepts i on)
 
 -- the weights of one proposer
 pub weights_at : (weigh : ℕ → Option ℕ → ℤ) (s : Seating) (p : ℕ) → p < length s.market.proposers → get_or (weights_by weigh s) p [] ≡ at_places s (λ p i. weigh p (Some i)) p

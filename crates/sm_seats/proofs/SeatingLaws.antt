@@ -1,5 +1,5 @@
 -- What the commands need of a seating: whom its places name, in which order, and the best matchings of both sides.
-use Rattle.std.proofs.Common.{◌≡◌, ℕ, ◌+◌, ◌<◌, ◌≤◌, List, Option, None, length, get_or, unwrap_or, sym, ap, ◌∙◌, subst, arith, inl, inr}
+use Rattle.std.proofs.Common.{◌≡◌, ℕ, ◌+◌, ◌-◌, ◌<◌, ◌≤◌, List, Option, None, length, get_or, unwrap_or, sym, ap, ◌∙◌, subst, arith, inl, inr}
 use Rattle.std.proofs.lemmas.Bool.{cases_lt, cases_eq}
 use Rattle.std.proofs.lemmas.List.{get_or_past}
 use Rattle.std.proofs.lemmas.List.FromFn.{get_or-map-range_with_len}
@@ -15,7 +15,7 @@ use Rattle.sm_market.proofs.Bridge.{held_cases}
 use Rattle.sm_theory.specs.Vectors.{level_of}
 use Rattle.sm_seats.specs.Seating.{Seating, reviewer_of, written_place, written_of, levels_of}
 use Rattle.sm_seats.specs.Correspondence.{IsSeating}
-use Rattle.sm_seats.proofs.SeatingLemmas.{length-levels, level_is}
+use Rattle.sm_seats.proofs.SeatingLemmas.{length-levels, level_is, place_read}
 use Rattle.sm_seats.proofs.WrittenLemmas.{row-seating}
 
 -- a proposer that isn't there stands at 0
@@ -33,6 +33,10 @@ module _ {w : Written} {s : Seating} (h : IsSeating w s) where
   -- a place of the market stands for one of the written list, at which its seat's reviewer is named
   pub written_on : (p i : ℕ) → i < length (row s.market.proposers p) → written_place s p i < length (written_row w.proposers p)
   written_on p i on = (let long = ap (λ (l : List ℕ). length l) (list_of p) in let below = h.on_lists p i on in omega arith)
+
+  -- it is one less than the level
+  pub level_on_list : (p i : ℕ) {levels : List ℕ} → levels ≡ row (levels_of s) p → i < length (row s.market.proposers p) → get_or levels i 0 - 1 < length (written_row w.proposers p)
+  level_on_list p i same on = omega (arith, place_read s p i same on, written_on p i on)
 
   -- at that written place the seat's reviewer is named
   pub written_names : (p i : ℕ) → i < length (row s.market.proposers p) → written_entry w.proposers p (written_place s p i) ≡ reviewer_of s (entry s.market.proposers p i)

@@ -1,5 +1,5 @@
 -- What is read off a seating, whichever it is.
-use Rattle.std.proofs.Common.{◌≡◌, ℕ, ◌+◌, ◌<◌, List, [], ◌∷◌, Option, None, length, get_or, sym, ap, ◌∙◌, arith, inl, inr}
+use Rattle.std.proofs.Common.{◌≡◌, ℕ, ◌+◌, ◌-◌, ◌<◌, List, [], ◌∷◌, Option, None, length, get_or, sym, ap, ◌∙◌, arith, inl, inr}
 use Rattle.std.specs.Option.{option_map}
 use Rattle.std.proofs.lemmas.Bool.{cases_lt}
 use Rattle.std.proofs.lemmas.List.{get_or_past, get_or_append_left, get_or_push, length_push}
@@ -54,6 +54,14 @@ level_is s p i on =
     ap (λ l. get_or l i 0) (levels_row s p (row_in_range s.market.proposers p i on))
     ∙ get_or_append_left (at_places s rank_of p) ((length (row s.lists p) + 1) ∷ []) 0 i (omega (arith, length-at_places s rank_of p, on))
     ∙ at_place_is s rank_of 0 p i on
+
+-- the same of the levels of a proposer, where they are at hand
+pub level_read : (s : Seating) (p i : ℕ) {levels : List ℕ} → levels ≡ row (levels_of s) p → i < length (row s.market.proposers p) → get_or levels i 0 ≡ written_place s p i + 1
+level_read s p i same on = ap (λ xs. get_or xs i 0) same ∙ level_is s p i on
+
+-- so what is one less is the written place
+pub place_read : (s : Seating) (p i : ℕ) {levels : List ℕ} → levels ≡ row (levels_of s) p → i < length (row s.market.proposers p) → get_or levels i 0 - 1 ≡ written_place s p i
+place_read s p i same on = (let level = level_read s p i same on in omega (arith, level))
 
 -- and at last one more than the length of the written list
 pub level_last : (s : Seating) (p : ℕ) → p < length s.market.proposers → get_or (row (levels_of s) p) (length (row s.market.proposers p)) 0 ≡ length (row s.lists p) + 1

@@ -1,9 +1,8 @@
 //! The top call of the stable matching workbench: [`run`] does all that the program does.
 //!
-//! The words are read by [`read_words`]. For each job `sm_answer_rotations`, `sm_answer_list`, `sm_answer_pairs`, `sm_answer_given`, `sm_answer_survey`, `sm_answer_median`, `sm_answer_route` or `sm_answer_roommates` makes its
-//! answer, a value that gives lines ([`sm_answer::Lines`]), and this crate writes it or says why there is none; for `check` it is the
-//! verdict of `sm_cert`, and for `export` a text of `sm_json`. How a command
-//! is added is told in the document `ADDING.md` of this repository.
+//! The words are read by [`read_words`]. For each job a crate `sm_answer_..` makes its answer, a value that gives lines
+//! ([`sm_answer::Lines`]), and this crate writes it or says why there is none; for `check` it is the verdict of `sm_cert`, and
+//! for `export` a text of `sm_json`. How a command is added is told in the document `ADDING.md` of this repository.
 #![tactic(auto)]
 
 mod behind;

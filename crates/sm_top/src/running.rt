@@ -56,7 +56,8 @@ use std::alloc::Global;
 ///   them; for `median` how many stable matchings are allowed, and the pairs of the one in which each proposer has the partner in
 ///   the middle of those that it has in all of them (Teo and Sethuraman 1998); for `route` the pairs of two stable matchings,
 ///   which are read behind `end`, what `rotations` has, and the fewest rotations that lead from the left one back and forth to
-///   the right one; for `check` that the answer which is read behind `end` is right: each clause holds at each of its lines, and what that
+///   the right one; for `rest` of roommates the lowest member of each odd party of three or more of a stable partition, and a
+///   matching of all others that no two of them block (Tan 1991); for `check` that the answer which is read behind `end` is right: each clause holds at each of its lines, and what that
 ///   means of the instance is said in [`sm_cert::laws`]; for `make` the text of the instance that is made, or what `survey`
 ///   with a limit of 100, or for roommates `solve`, writes for it; for `export` the one line of the instance in JSON
 ///   ([`sm_json::to_json`]).

@@ -2,36 +2,31 @@ use Rattle.std.proofs.Common.{pos, replicate, ◌≡◌, ℕ, ◌-◌, ◌++◌,
 use Rattle.std.proofs.lemmas.List.Elements.{All-push}
 use Rattle.std.specs.List.{range_with_len}
 use Rattle.std.proofs.lemmas.List.FromFn.{map-range_with_len_more, length-range_with_len}
-use Rattle.sm_agents.specs.Written.{entry, IsAcceptable}
 use Rattle.sm_market.specs.Lists.{Lists, row}
 use Rattle.sm_seats.specs.Seating.{written_place}
-use Rattle.sm_seats.proofs.SeatingLemmas.{level_is}
-use Rattle.sm_seats.proofs.SeatingLaws.{written_on}
+use Rattle.sm_seats.proofs.SeatingLemmas.{level_read, place_read}
+use Rattle.sm_seats.proofs.SeatingLaws.{level_on_list}
 use Rattle.sm_theory.proofs.Weighing.Sizes.{small_is}
 use Rattle.sm_seats.specs.PlaceWeights.{IsLight, pair_given}
-use Rattle.sm_seats.proofs.PlaceLemmas.{small_of}
+use Rattle.sm_seats.proofs.PlaceLemmas.{small_of, acceptable_read}
 use Rattle.sm_seats.proofs.RankLemmas.{nil_of_empty, none_given, zeros}
 use Rattle.sm_seats.proofs.place_weights.given_at.Goals as goal
 
 pub overflow_sub-levels : goal.overflow_sub-levels
 overflow_sub-levels c =
     let same = ap (λ (l : Lists). length (row l.proposers c.args.p)) c.market.ensures in
-    let is = ap (λ (xs : List ℕ). get_or xs c.loop-i.i 0) c.requires.levels ∙ level_is c.args.seats.now c.args.p c.loop-i.i (omega (arith, same)) in
+    let is = level_read c.args.seats.now c.args.p c.loop-i.i c.requires.levels (omega (arith, same)) in
     omega (arith, is)
 
 pub given_to-requires-clause-on_list : goal.given_to-requires-clause-on_list
 given_to-requires-clause-on_list c =
     let same = ap (λ (l : Lists). length (row l.proposers c.args.p)) c.market.ensures in
-    let is = ap (λ (xs : List ℕ). get_or xs c.loop-i.i 0) c.requires.levels ∙ level_is c.args.seats.now c.args.p c.loop-i.i (omega (arith, same)) in
-    omega (arith, is, written_on c.requires.seating c.args.p c.loop-i.i (omega (arith, same)))
+    level_on_list c.requires.seating c.args.p c.loop-i.i c.requires.levels (omega (arith, same))
 
 pub given_to-requires-clause-acceptable : goal.given_to-requires-clause-acceptable
 given_to-requires-clause-acceptable c =
     let same = ap (λ (l : Lists). length (row l.proposers c.args.p)) c.market.ensures in
-    let i = c.loop-i.i in
-    let is = ap (λ (xs : List ℕ). get_or xs i 0) c.requires.levels ∙ level_is c.args.seats.now c.args.p i (omega (arith, same)) in
-    let place : get_or c.args.levels.now i 0 - 1 ≡ written_place c.args.seats.now c.args.p i = omega (arith, is) in
-    subst (λ k. IsAcceptable c.args.instance.now c.args.p (entry c.args.instance.now.proposers c.args.p k)) (sym place) (c.requires.acceptable i (omega (arith, same)))
+    acceptable_read c.args.instance.now c.args.seats.now c.args.p c.loop-i.i c.requires.acceptable c.requires.levels (omega (arith, same))
 
 pub loop-i-preserved : goal.loop-i-preserved
 loop-i-preserved c =
@@ -41,9 +36,7 @@ loop-i-preserved c =
     let s = c.args.seats.now in
     let p = c.args.p in
     let second = c.args.second in
-    let level = get_or c.args.levels.now i 0 in
-    let is = ap (λ (xs : List ℕ). get_or xs i 0) c.requires.levels ∙ level_is s p i (omega (arith, same)) in
-    let place : level - 1 ≡ written_place s p i = omega (arith, is) in
+    let place = place_read s p i c.requires.levels (omega (arith, same)) in
     let weight : c.given_to.result ≡ pair_given second w p (Some (written_place s p i)) = c.given_to.ensures.weight ∙ ap (λ k. pair_given second w p (Some k)) place in
     let items : c.push_reserved.new.self.items ≡ c.loop-i.weights.items ++ c.given_to.result ∷ [] =
     c.push_reserved.ensures.items ∙ ap (λ z. c.loop-i.weights.items ++ z ∷ []) (small_is c.given_to.result (small_of c.given_to.result c.given_to.ensures.size)) in

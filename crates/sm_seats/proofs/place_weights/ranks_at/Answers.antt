@@ -7,7 +7,7 @@ use Rattle.sm_instance.specs.Ranks.{pair_weight, rank_back}
 use Rattle.sm_instance.specs.declared.crosses.Crosses.{Crosses}
 use Rattle.sm_market.specs.Lists.{Lists, row}
 use Rattle.sm_seats.specs.Seating.{Seating, written_place, levels_of}
-use Rattle.sm_seats.proofs.SeatingLemmas.{level_is}
+use Rattle.sm_seats.proofs.SeatingLemmas.{level_read}
 use Rattle.sm_seats.proofs.SeatingLaws.{written_on}
 use Rattle.sm_theory.proofs.Weighing.Sizes.{small_is}
 use Rattle.sm_seats.specs.PlaceWeights.{IsLight}
@@ -20,20 +20,20 @@ abbrev crosses_at : Crosses → ℕ → List (Option ℕ)
 crosses_at crosses p = get_or crosses.proposers p []
 
 -- a level among the first ones of a proposer is one more than the place
-level_read : (s : Seating) (levels : List ℕ) (p n i : ℕ) → levels ≡ row (levels_of s) p → i < n → i < length (row s.market.proposers p) → get_or (take n levels) i 0 ≡ written_place s p i + 1
-level_read s levels p n i same below on = get_or-take n levels i 0 below ∙ ap (λ (xs : List ℕ). get_or xs i 0) same ∙ level_is s p i on
+first_level : (s : Seating) (levels : List ℕ) (p n i : ℕ) → levels ≡ row (levels_of s) p → i < n → i < length (row s.market.proposers p) → get_or (take n levels) i 0 ≡ written_place s p i + 1
+first_level s levels p n i same below on = get_or-take n levels i 0 below ∙ level_read s p i same on
 
 pub overflow_sub-level : goal.overflow_sub-level
 overflow_sub-level c =
     let same = ap (λ (l : Lists). length (row l.proposers c.args.p)) c.market.ensures in
-    let is = level_read c.args.seats.now c.args.levels.now c.args.p c.proposer_len-places.result c.loop-i.i c.requires.levels c.loop-i-test.true (omega (arith, same, c.proposer_len-places.ensures, c.loop-i-test.true)) in
+    let is = first_level c.args.seats.now c.args.levels.now c.args.p c.proposer_len-places.result c.loop-i.i c.requires.levels c.loop-i-test.true (omega (arith, same, c.proposer_len-places.ensures, c.loop-i-test.true)) in
     omega (arith, is)
 
 pub bounds-crosses-level : goal.bounds-crosses-level
 bounds-crosses-level c =
     let same = ap (λ (l : Lists). length (row l.proposers c.args.p)) c.market.ensures in
     let on : c.loop-i.i < length (row c.args.seats.now.market.proposers c.args.p) = omega (arith, same, c.proposer_len-places.ensures, c.loop-i-test.true) in
-    let is = level_read c.args.seats.now c.args.levels.now c.args.p c.proposer_len-places.result c.loop-i.i c.requires.levels c.loop-i-test.true on in
+    let is = first_level c.args.seats.now c.args.levels.now c.args.p c.proposer_len-places.result c.loop-i.i c.requires.levels c.loop-i-test.true on in
     omega (arith, is, written_on c.requires.seating c.args.p c.loop-i.i on, ap length c.of_proposer-crosses.ensures, (c.requires.crosses.there.of c.args.p c.requires.in_range).as_long)
 
 pub rank_in-back-requires : goal.rank_in-back-requires
@@ -44,7 +44,7 @@ rank_in-back-requires c =
     let i = c.loop-i.i in
     let same = ap (λ (l : Lists). length (row l.proposers p)) c.market.ensures in
     let on : i < length (row s.market.proposers p) = omega (arith, same, c.proposer_len-places.ensures, c.loop-i-test.true) in
-    let is = level_read s c.args.levels.now p c.proposer_len-places.result i c.requires.levels c.loop-i-test.true on in
+    let is = first_level s c.args.levels.now p c.proposer_len-places.result i c.requires.levels c.loop-i-test.true on in
     let place : get_or (take c.proposer_len-places.result c.args.levels.now) i 0 - 1 ≡ written_place s p i = omega (arith, is) in
     let x : Option ℕ = c.index-crosses-level.result in
     (rank_read c.proposer_len-written.ensures.instance p (written_place s p i) (crosses_at c.args.crosses.now p) x (c.requires.crosses.there.of p c.requires.in_range) (written_on c.requires.seating p i on)
@@ -58,7 +58,7 @@ overflow_add-level c =
     let i = c.loop-i.i in
     let same = ap (λ (l : Lists). length (row l.proposers p)) c.market.ensures in
     let on : i < length (row s.market.proposers p) = omega (arith, same, c.proposer_len-places.ensures, c.loop-i-test.true) in
-    let is = level_read s c.args.levels.now p c.proposer_len-places.result i c.requires.levels c.loop-i-test.true on in
+    let is = first_level s c.args.levels.now p c.proposer_len-places.result i c.requires.levels c.loop-i-test.true on in
     let place : get_or (take c.proposer_len-places.result c.args.levels.now) i 0 - 1 ≡ written_place s p i = omega (arith, is) in
     let x : Option ℕ = c.index-crosses-level.result in
     let it = rank_read c.proposer_len-written.ensures.instance p (written_place s p i) (crosses_at c.args.crosses.now p) x (c.requires.crosses.there.of p c.requires.in_range) (written_on c.requires.seating p i on)
@@ -76,7 +76,7 @@ loop-i-preserved c =
     let same = ap (λ (l : Lists). length (row l.proposers p)) c.market.ensures in
     let on : i < length (row s.market.proposers p) = omega (arith, same, c.proposer_len-places.ensures, c.loop-i-test.true) in
     let level : ℕ = get_or (take c.proposer_len-places.result c.args.levels.now) i 0 in
-    let is : level ≡ written_place s p i + 1 = level_read s c.args.levels.now p c.proposer_len-places.result i c.requires.levels c.loop-i-test.true on in
+    let is : level ≡ written_place s p i + 1 = first_level s c.args.levels.now p c.proposer_len-places.result i c.requires.levels c.loop-i-test.true on in
     let place : level - 1 ≡ written_place s p i = omega (arith, is) in
     let x : Option ℕ = c.index-crosses-level.result in
     let it = rank_read c.proposer_len-written.ensures.instance p (written_place s p i) (crosses_at c.args.crosses.now p) x (c.requires.crosses.there.of p c.requires.in_range) (written_on c.requires.seating p i on)
