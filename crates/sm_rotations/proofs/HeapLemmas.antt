@@ -13,9 +13,8 @@ use Rattle.std.proofs.lemmas.List.{get_or-set_same, get_or-set_other}
 use Rattle.std.proofs.lemmas.List.Elements.{All-nil, All-cons, All-tail, All-head}
 use Rattle.std.proofs.lemmas.List.Sorted.{All-permutation, sum_by_pushed, sum_by_popped}
 use Rattle.sm_lists.proofs.Counting.{eq_or_ne}
-use Rattle.sm_theory.specs.Chains.{rotation_at}
 use Rattle.sm_rotations.specs.Graph.{times}
-use Rattle.sm_rotations.specs.Ordering.{later_first, times_ready, IsLead, IsHeapEntry, IsOneMore, IsReleased, AreReadyAtFirst}
+use Rattle.sm_rotations.specs.Ordering.{later_first, times_ready, IsHeapEntry, IsOneMore, IsReleased, AreReadyAtFirst}
 use Rattle.sm_rotations.proofs.TimesLemmas.{num_true, num_false, times_more, times_same, times_part}
 
 -- of a heap in order the first has the lowest proposer
@@ -42,15 +41,12 @@ module _ (x : Reverse (ℕ × ℕ)) (xs ys : List (Reverse (ℕ × ℕ))) (p : I
       omega (arith, num_false (nat_eq x.0.1 j) (ne_eqb x.0.1 j ne), sum_by_pushed (λ z. cond (nat_eq z.0.1 j) 1 0) x xs ys p)
 
   -- so the heap has it once more
-  pub one_more : (rotation : List (ℕ × ℕ)) (k : ℕ) → x.0.1 ≡ k → IsLead rotation x.0.0 → IsOneMore rotation k xs ys
-  one_more rotation k is lead = record {
-    others = λ j ne. others_pushed j (λ e. ne (sym e ∙ is));
-    this = rw is at one_pushed;
-    entries = λ rotations g same all. All-permutation (IsHeapEntry rotations) (x ∷ xs) ys p (All-cons (IsHeapEntry rotations) x xs (entry rotations g same) all);
+  pub one_more : IsOneMore x.0.0 x.0.1 xs ys
+  one_more = record {
+    others = λ j ne. others_pushed j (λ e. ne (sym e));
+    this = one_pushed;
+    entries = λ rotations g lead all. All-permutation (IsHeapEntry rotations) (x ∷ xs) ys p (All-cons (IsHeapEntry rotations) x xs (g, lead) all);
   }
-    where
-      entry : (rotations : List (List (ℕ × ℕ))) → k < length rotations → rotation_at rotations k ≡ rotation → IsHeapEntry rotations x
-      entry rotations g same = (omega arith, rw (is, same) lead)
 
 -- a rotation goes out
 module _ (x : Reverse (ℕ × ℕ)) (xs ys : List (Reverse (ℕ × ℕ))) (p : IsPermutation xs (x ∷ ys)) where
@@ -73,12 +69,12 @@ module _ (x : Reverse (ℕ × ℕ)) (xs ys : List (Reverse (ℕ × ℕ))) (p : I
   entries_popped rotations all = All-tail (IsHeapEntry rotations) x ys (All-permutation (IsHeapEntry rotations) xs (x ∷ ys) p all)
 
 -- the heap at first, rotation after rotation
-module _ {rotations : List (List (ℕ × ℕ))} {unmet : List ℕ} where
+module _ {leads : List ℕ} {unmet : List ℕ} where
   -- a rotation that needs no other comes in
-  pub first_more : {k : ℕ} {ready after : List (Reverse (ℕ × ℕ))} → k < length rotations → slice_index_or unmet k 0 ≡ 0 → AreReadyAtFirst rotations unmet k ready → IsOneMore (rotation_at rotations k) k ready after
-      → AreReadyAtFirst rotations unmet (k + 1) after
+  pub first_more : {k : ℕ} {ready after : List (Reverse (ℕ × ℕ))} → k < length leads → slice_index_or unmet k 0 ≡ 0 → AreReadyAtFirst leads unmet k ready → IsOneMore (slice_index_or leads k 0) k ready after
+      → AreReadyAtFirst leads unmet (k + 1) after
   first_more {k} {ready} {after} g none r o = record {
-    entries = o.entries rotations g refl r.entries;
+    entries = λ rotations a. let inside : k < length rotations = omega (arith, a.one_each) in o.entries rotations inside (a.each k inside) (r.entries rotations a);
     once = λ j a e. elim (eq_or_ne j k) [
       | inl is ↦ rw is (omega (arith, o.this, r.later k (omega arith)))
       | inr ne ↦ omega (arith, o.others j ne, r.once j (omega arith) e)
@@ -91,7 +87,7 @@ module _ {rotations : List (List (ℕ × ℕ))} {unmet : List ℕ} where
   }
 
   -- one that needs others is passed over
-  pub first_past : {k : ℕ} {ready : List (Reverse (ℕ × ℕ))} → slice_index_or unmet k 0 ≢ 0 → AreReadyAtFirst rotations unmet k ready → AreReadyAtFirst rotations unmet (k + 1) ready
+  pub first_past : {k : ℕ} {ready : List (Reverse (ℕ × ℕ))} → slice_index_or unmet k 0 ≢ 0 → AreReadyAtFirst leads unmet k ready → AreReadyAtFirst leads unmet (k + 1) ready
   first_past {k} {ready} some r = record {
     entries = r.entries;
     once = λ j a e. elim (eq_or_ne j k) [
@@ -106,9 +102,9 @@ module _ {rotations : List (List (ℕ × ℕ))} {unmet : List ℕ} where
   }
 
 -- needs are met, one after another
-module _ {rotations : List (List (ℕ × ℕ))} (followers : List ℕ) (before : List ℕ) (ready_before : List (Reverse (ℕ × ℕ))) where
+module _ {leads : List ℕ} (followers : List ℕ) (before : List ℕ) (ready_before : List (Reverse (ℕ × ℕ))) where
   module _ {e j : ℕ} {unmet : List ℕ} {ready : List (Reverse (ℕ × ℕ))} (inside : e < length followers) (is : slice_index_or followers e 0 ≡ j) (within : j < length unmet)
-      (r : IsReleased rotations (take e followers) before ready_before unmet ready) (enough : times followers j ≤ slice_index_or before j 0) where
+      (r : IsReleased leads (take e followers) before ready_before unmet ready) (enough : times followers j ≤ slice_index_or before j 0) where
     -- a follower has an unmet need
     pub some_unmet : 0 < slice_index_or unmet j 0
     some_unmet = omega (arith, r.counts j, times_more followers e j inside is, times_part followers (e + 1) j)
@@ -126,7 +122,7 @@ module _ {rotations : List (List (ℕ × ℕ))} (followers : List ℕ) (before :
     ]
 
     -- one need of a follower is met, and others are left
-    pub release_kept : (n : ℕ) → n + 1 ≡ slice_index_or unmet j 0 → slice_index_or (set unmet j n) j 0 ≢ 0 → IsReleased rotations (take (e + 1) followers) before ready_before (set unmet j n) ready
+    pub release_kept : (n : ℕ) → n + 1 ≡ slice_index_or unmet j 0 → slice_index_or (set unmet j n) j 0 ≢ 0 → IsReleased leads (take (e + 1) followers) before ready_before (set unmet j n) ready
     release_kept n less ne = record {
       counts = counts_on n less;
       fallen = λ i. elim (eq_or_ne i j) [
@@ -140,8 +136,8 @@ module _ {rotations : List (List (ℕ × ℕ))} (followers : List ℕ) (before :
     }
 
     -- the last need of a follower is met, and it comes into the heap
-    pub release_fallen : (n : ℕ) {after : List (Reverse (ℕ × ℕ))} → n + 1 ≡ slice_index_or unmet j 0 → slice_index_or (set unmet j n) j 0 ≡ 0 → j < length rotations → IsOneMore (rotation_at rotations j) j ready after
-        → IsReleased rotations (take (e + 1) followers) before ready_before (set unmet j n) after
+    pub release_fallen : (n : ℕ) {after : List (Reverse (ℕ × ℕ))} → n + 1 ≡ slice_index_or unmet j 0 → slice_index_or (set unmet j n) j 0 ≡ 0 → j < length leads → IsOneMore (slice_index_or leads j 0) j ready after
+        → IsReleased leads (take (e + 1) followers) before ready_before (set unmet j n) after
     release_fallen n {after} less none g o = record {
       counts = counts_on n less;
       fallen = λ i. elim (eq_or_ne i j) [
@@ -151,5 +147,5 @@ module _ {rotations : List (List (ℕ × ℕ))} (followers : List ℕ) (before :
         })
         | inr other ↦ rw (elsewhere n i other, o.others i other) (r.fallen i)
       ];
-      entries = λ all. o.entries rotations g refl (r.entries all);
+      entries = λ rotations a all. let inside : j < length rotations = omega (arith, a.one_each) in o.entries rotations inside (a.each j inside) (r.entries rotations a all);
     }

@@ -11,7 +11,7 @@ use Rattle.sm_lists.proofs.Counting.{eq_or_ne, lt_or_le, by_contradiction, Decid
 use Rattle.sm_theory.specs.Rotations.{IsExposed, eliminated, IsNothingExposed, IsLowestExposed}
 use Rattle.sm_theory.specs.Chains.{rotation_at, IsCompleteChain, IsNeededBy}
 use Rattle.sm_rotations.specs.Graph.{times, times_below, AreFollowers, AreCounts}
-use Rattle.sm_rotations.specs.Ordering.{times_ready, is_passed, IsPassed, left_over, IsLead, IsHeapEntry, IsTurned, AreReady, AreReadyAtFirst, IsReleased}
+use Rattle.sm_rotations.specs.Ordering.{times_ready, is_passed, IsPassed, left_over, IsLead, AreLeads, IsHeapEntry, IsTurned, AreReady, AreReadyAtFirst, IsReleased}
 use Rattle.sm_rotations.proofs.TimesLemmas.{count_found, below_none, below_some, below_alike, below_apart}
 use Rattle.sm_rotations.proofs.TurnLemmas.{turned_exposed, turned_first}
 use Rattle.sm_rotations.proofs.PassedLemmas.{IsReadyOne, none_passed, passed_needs, ready_exposed, exposed_ready_one, all_passed, now_passed, still_passed, no_other_passed}
@@ -40,13 +40,14 @@ module _ {l : Lists} (h : IsMarket l) {first : Places} {rotations : List (List (
   ])
 
   -- at first all needs are left over
-  pub ready_start : (unmet : List ℕ) (ready : List (Reverse (ℕ × ℕ))) → AreCounts followers (length followers) unmet → AreReadyAtFirst rotations unmet (length rotations) ready → AreReady l first rotations followers first unmet ready
-  ready_start unmet ready c r = record {
+  pub ready_start : (unmet : List ℕ) (ready : List (Reverse (ℕ × ℕ))) → AreCounts followers (length followers) unmet → {leads : List ℕ} → AreLeads rotations (length rotations) leads
+      → AreReadyAtFirst leads unmet (length rotations) ready → AreReady l first rotations followers first unmet ready
+  ready_start unmet ready c leads r = record {
     one_each = c.one_each ∙ f.one_each;
     counts = λ k g. c.each k (omega (arith, f.one_each)) ∙ ap (times_below (λ _. true) followers k) f.one_each
         ∙ below_alike followers k (λ _. true) (λ i. not (is_passed l first rotations first i)) (length rotations) (λ i a.
         sym (ap not (false_of (is_passed l first rotations first i) (none_passed h chain i a))));
-    entries = r.entries;
+    entries = r.entries rotations leads;
     once = λ k g _ e. r.once k g e;
     passed = λ k g e. absurd (none_passed h chain k g e);
     waiting = λ k g ne. r.waiting k g ne;
@@ -117,11 +118,11 @@ module _ {l : Lists} (h : IsMarket l) {first : Places} {rotations : List (List (
       -- with the needs met that the first met, the heap is right for the matching behind it
       pub ready_more : {unmet_after : List ℕ} {rest ready_after : List (Reverse (ℕ × ℕ))}
           → ((j : ℕ) → j ≢ k → times_ready rest j ≡ times_ready ready j) → times_ready rest k + 1 ≡ times_ready ready k → All (IsHeapEntry rotations) rest
-          → length unmet_after ≡ length unmet → IsReleased rotations (row followers k) unmet rest unmet_after ready_after → AreReady l first rotations followers (eliminated l m (rotation_at rotations k)) unmet_after ready_after
-      ready_more {unmet_after} {rest} {ready_after} others this entries long d = record {
+          → length unmet_after ≡ length unmet → {leads : List ℕ} → AreLeads rotations (length rotations) leads → IsReleased leads (row followers k) unmet rest unmet_after ready_after → AreReady l first rotations followers (eliminated l m (rotation_at rotations k)) unmet_after ready_after
+      ready_more {unmet_after} {rest} {ready_after} others this entries long leads d = record {
         one_each = long ∙ r.one_each;
         counts = λ j a. omega (arith, d.counts j, fewer j, r.counts j a);
-        entries = d.entries entries;
+        entries = d.entries rotations leads entries;
         once = once;
         passed = passed;
         waiting = waiting;

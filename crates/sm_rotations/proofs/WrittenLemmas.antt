@@ -1,10 +1,10 @@
 -- Turn after turn the heap's first is written, until all is written.
-use Rattle.std.proofs.Common.{◌≡◌, ℕ, ◌<◌, ◌≤◌, inl, inr, arith, refl, sym, ap, ◌∙◌, List, [], ◌∷◌, ◌++◌, Vec, length, slice_index_or, get_or}
+use Rattle.std.proofs.Common.{◌≡◌, ◌≢◌, ℕ, ◌<◌, ◌≤◌, inl, inr, arith, refl, sym, ap, ◌∙◌, List, [], ◌∷◌, ◌++◌, Vec, length, set, slice_index_or, get_or}
 use Rattle.std.specs.BinaryHeap.{IsUpperBound}
 use Rattle.std.specs.List.Sorted.{IsPermutation}
 use Rattle.std.specs.declared.cmp.Reverse.{Reverse}
 use Rattle.std.specs.declared.alloc.Global.{Global}
-use Rattle.std.proofs.lemmas.List.{get_or-map}
+use Rattle.std.proofs.lemmas.List.{get_or-map, get_or-set_other, length-set}
 use Rattle.sm_market.specs.Lists.{Lists, row, IsMarket}
 use Rattle.sm_market.specs.Matching.{Places}
 use Rattle.sm_market.specs.Vectors.{rows_of}
@@ -16,9 +16,10 @@ use Rattle.sm_theory.specs.declared.rotations.Rotation.{Rotation}
 use Rattle.sm_theory.proofs.Bridge.Rotation.{eliminated_stable}
 use Rattle.sm_rotations.specs.Chaining.{LeadsTo}
 use Rattle.sm_rotations.specs.Graph.{times, AreFollowers, AreCounts}
-use Rattle.sm_rotations.specs.Ordering.{later_first, times_ready, IsHeapEntry, IsTurned, AreReadyAtFirst, IsPassed, IsReleased, AreWritten}
+use Rattle.sm_rotations.specs.Ordering.{later_first, times_ready, AreLeads, IsHeapEntry, IsTurned, AreReadyAtFirst, IsPassed, IsReleased, AreWritten, AreLeft}
 use Rattle.sm_rotations.proofs.ChainingLemmas.{leads_start, leads_on, leads_whole, places_below, places_fall}
 use Rattle.sm_rotations.proofs.NeedsLemmas.{as_many}
+use Rattle.sm_rotations.proofs.PassedLemmas.{now_passed, still_passed}
 use Rattle.sm_rotations.proofs.TurnLemmas.{turned_eliminated}
 use Rattle.sm_rotations.proofs.HeapLemmas.{least_of_heap, one_popped, others_popped, entry_popped, entries_popped}
 use Rattle.sm_rotations.proofs.ReadyLemmas.{ready_start, in_heap_out, in_heap_exposed, nothing_left, first_is_lowest, enough, ready_more}
@@ -45,11 +46,12 @@ has_followers rotations followers h chain are = record { market = h; chain = cha
 
 module _ {l : Lists} {first : Places} {rotations : List (List (ℕ × ℕ))} {followers : List (List ℕ)} (u : HasFollowers l first rotations followers) where
   -- with nothing written the heap has what is ready at first
-  pub written_start : {written : List (List (ℕ × ℕ))} (unmet : List ℕ) (ready : List (Reverse (ℕ × ℕ))) → written ≡ [] → AreCounts followers (length followers) unmet → AreReadyAtFirst rotations unmet (length rotations) ready → AreWritten l first rotations followers written unmet ready
-  written_start unmet ready none c r = rw none (record {
+  pub written_start : {written : List (List (ℕ × ℕ))} (unmet : List ℕ) (ready : List (Reverse (ℕ × ℕ))) → written ≡ [] → AreCounts followers (length followers) unmet
+      → {leads : List ℕ} → AreLeads rotations (length rotations) leads → AreReadyAtFirst leads unmet (length rotations) ready → AreWritten l first rotations followers written unmet ready
+  written_start unmet ready none c leads r = rw none (record {
     stable = u.chain.from_best.stable;
     leads = leads_start l first first refl;
-    heap = ready_start u.market u.chain u.are unmet ready c r;
+    heap = ready_start u.market u.chain u.are unmet ready c leads r;
   })
 
   module _ {written : List (List (ℕ × ℕ))} {unmet : List ℕ} {ready : List (Reverse (ℕ × ℕ))} (w : AreWritten l first rotations followers written unmet ready) where
@@ -99,12 +101,23 @@ module _ {l : Lists} {first : Places} {rotations : List (List (ℕ × ℕ))} {fo
         pub next_is : stage l first written_after (length written_after) ≡ eliminated l (stage l first written (length written)) (rotation_at rotations x.0.1)
         next_is = rw more (sym leads.at_end ∙ turned_eliminated u.market w.stable popped_exposed t)
 
+        -- and it leaves the others that aren't passed as they were
+        pub left_more : {left : List (List (ℕ × ℕ))} (new : List (ℕ × ℕ)) → AreLeft l first rotations (stage l first written (length written)) left
+            → AreLeft l first rotations (stage l first written_after (length written_after)) (set left x.0.1 new)
+        left_more {left} new a = rw next_is (record {
+          one_each = length-set left x.0.1 new ∙ a.one_each;
+          each = λ k g out.
+              let other : k ≢ x.0.1 = λ same. out (rw same (now_passed u.market u.chain w.stable x.0.1 entry.0 popped_exposed)) in
+              rw (get_or-set_other left x.0.1 k new [] other) (a.each k g (λ e. out (still_passed u.market u.chain w.stable x.0.1 entry.0 popped_exposed k g e)));
+        })
+
         -- once its followers' needs are met, what is written and the heap are right again
-        pub written_more : {unmet_after : List ℕ} {ready_after : List (Reverse (ℕ × ℕ))} → length unmet_after ≡ length unmet → IsReleased rotations (row followers x.0.1) unmet rest unmet_after ready_after
+        pub written_more : {unmet_after : List ℕ} {ready_after : List (Reverse (ℕ × ℕ))} → length unmet_after ≡ length unmet
+            → {leads : List ℕ} → AreLeads rotations (length rotations) leads → IsReleased leads (row followers x.0.1) unmet rest unmet_after ready_after
             → AreWritten l first rotations followers written_after unmet_after ready_after
-        written_more {unmet_after} {ready_after} long released = rw more (record {
+        written_more {unmet_after} {ready_after} long leads_are released = rw more (record {
           stable = rw (sym leads.at_end) (eliminated_stable u.market w.stable low.exposed);
           leads = rw (sym leads.at_end) leads;
           heap = rw (sym leads.at_end ∙ turned_eliminated u.market w.stable popped_exposed t)
-              (ready_more u.market u.chain u.are w.stable w.heap x.0.1 entry.0 stands (others_popped x ready rest popped) (one_popped x ready rest popped) (entries_popped x ready rest popped rotations w.heap.entries) long released);
+              (ready_more u.market u.chain u.are w.stable w.heap x.0.1 entry.0 stands (others_popped x ready rest popped) (one_popped x ready rest popped) (entries_popped x ready rest popped rotations w.heap.entries) long leads_are released);
         })

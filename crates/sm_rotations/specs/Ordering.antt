@@ -17,16 +17,28 @@ pub record IsLowestPair (rotation : List (ℕ × ℕ)) (i : ℕ) : Type 0 where
   pub inside : i < length rotation
   pub least : (j : ℕ) → j < length rotation → proposer_at rotation i ≤ proposer_at rotation j
 
--- the lowest-numbered proposers are in these pairs of the first n rotations
-pub record AreLowest (rotations : List (List (ℕ × ℕ))) (n : ℕ) (lows : List ℕ) : Type 0 where
-  pub one_each : length lows ≡ n
-  pub each : (k : ℕ) → k < n → IsLowestPair (rotation_at rotations k) (slice_index_or lows k 0)
+-- p is the lowest-numbered proposer
+pub record IsLead (rotation : List (ℕ × ℕ)) (p : ℕ) : Type 0 where
+  pub pair : ℕ
+  pub lowest : IsLowestPair rotation pair
+  pub is : proposer_at rotation pair ≡ p
+
+-- the lowest-numbered proposers of the first n rotations
+pub record AreLeads (rotations : List (List (ℕ × ℕ))) (n : ℕ) (leads : List ℕ) : Type 0 where
+  pub one_each : length leads ≡ n
+  pub each : (k : ℕ) → k < n → IsLead (rotation_at rotations k) (slice_index_or leads k 0)
 
 -- the same cycle, begun at its lowest-numbered proposer
 pub record IsTurned (rotation turned : List (ℕ × ℕ)) : Type 0 where
   pub from : ℕ
   pub lowest : IsLowestPair rotation from
   pub is : turned ≡ drop from rotation ++ take from rotation
+
+-- the first n rotations are begun at their lowest-numbered proposers, and the others stay
+pub record AreTurned (rotations : List (List (ℕ × ℕ))) (n : ℕ) (turned : List (List (ℕ × ℕ))) : Type 0 where
+  pub one_each : length turned ≡ length rotations
+  pub each : (k : ℕ) → k < n → IsTurned (rotation_at rotations k) (rotation_at turned k)
+  pub others : (k : ℕ) → n ≤ k → rotation_at turned k ≡ rotation_at rotations k
 
 -- the order of a heap whose first is the lowest
 abbrev pub later_first : Reverse (ℕ × ℕ) → Reverse (ℕ × ℕ) → Ordering
@@ -36,26 +48,20 @@ later_first x y = ordering_then (nat_cmp y.0.0 x.0.0) (nat_cmp y.0.1 x.0.1)
 abbrev pub times_ready : List (Reverse (ℕ × ℕ)) → ℕ → ℕ
 times_ready ready k = count_by (λ x. nat_eq x.0.1 k) ready
 
--- p is the lowest-numbered proposer
-pub record IsLead (rotation : List (ℕ × ℕ)) (p : ℕ) : Type 0 where
-  pub pair : ℕ
-  pub lowest : IsLowestPair rotation pair
-  pub is : proposer_at rotation pair ≡ p
-
 -- an item of the heap is a rotation with its lowest-numbered proposer
 abbrev pub IsHeapEntry : List (List (ℕ × ℕ)) → Reverse (ℕ × ℕ) → Type 0
 IsHeapEntry rotations x = (x.0.1 < length rotations) × IsLead (rotation_at rotations x.0.1) x.0.0
 
--- the heap has rotation k once more
-pub record IsOneMore (rotation : List (ℕ × ℕ)) (k : ℕ) (before after : List (Reverse (ℕ × ℕ))) : Type 0 where
+-- the heap has rotation k, whose lowest-numbered proposer is p, once more
+pub record IsOneMore (p k : ℕ) (before after : List (Reverse (ℕ × ℕ))) : Type 0 where
   pub others : (j : ℕ) → j ≢ k → times_ready after j ≡ times_ready before j
   pub this : times_ready after k ≡ times_ready before k + 1
-  pub entries : (rotations : List (List (ℕ × ℕ))) → k < length rotations → rotation_at rotations k ≡ rotation
+  pub entries : (rotations : List (List (ℕ × ℕ))) → k < length rotations → IsLead (rotation_at rotations k) p
       → All (IsHeapEntry rotations) before → All (IsHeapEntry rotations) after
 
 -- the heap has once each of the first n rotations that needs no other
-pub record AreReadyAtFirst (rotations : List (List (ℕ × ℕ))) (unmet : List ℕ) (n : ℕ) (ready : List (Reverse (ℕ × ℕ))) : Type 0 where
-  pub entries : All (IsHeapEntry rotations) ready
+pub record AreReadyAtFirst (leads : List ℕ) (unmet : List ℕ) (n : ℕ) (ready : List (Reverse (ℕ × ℕ))) : Type 0 where
+  pub entries : (rotations : List (List (ℕ × ℕ))) → AreLeads rotations (length rotations) leads → All (IsHeapEntry rotations) ready
   pub once : (k : ℕ) → k < n → slice_index_or unmet k 0 ≡ 0 → times_ready ready k ≡ 1
   pub waiting : (k : ℕ) → k < n → slice_index_or unmet k 0 ≢ 0 → times_ready ready k ≡ 0
   pub later : (k : ℕ) → n ≤ k → times_ready ready k ≡ 0
@@ -66,11 +72,12 @@ pub record IsFallen (unmet_before ready_before unmet_after ready_after : ℕ) : 
   pub same : (unmet_before ≡ 0) ⊎ (0 < unmet_after) → ready_after ≡ ready_before
 
 -- each rotation has one unmet need less for each time that it stands among the followers
-pub record IsReleased (rotations : List (List (ℕ × ℕ))) (followers : List ℕ) (unmet : List ℕ) (ready : List (Reverse (ℕ × ℕ)))
+pub record IsReleased (leads : List ℕ) (followers : List ℕ) (unmet : List ℕ) (ready : List (Reverse (ℕ × ℕ)))
     (unmet_after : List ℕ) (ready_after : List (Reverse (ℕ × ℕ))) : Type 0 where
   pub counts : (j : ℕ) → slice_index_or unmet_after j 0 + times followers j ≡ slice_index_or unmet j 0
   pub fallen : (j : ℕ) → IsFallen (slice_index_or unmet j 0) (times_ready ready j) (slice_index_or unmet_after j 0) (times_ready ready_after j)
-  pub entries : All (IsHeapEntry rotations) ready → All (IsHeapEntry rotations) ready_after
+  pub entries : (rotations : List (List (ℕ × ℕ))) → AreLeads rotations (length rotations) leads
+      → All (IsHeapEntry rotations) ready → All (IsHeapEntry rotations) ready_after
 
 -- a matching has passed rotation k: the first proposer of that has come down to where it moves it, or further
 abbrev pub is_passed : Lists → Places → List (List (ℕ × ℕ)) → Places → ℕ → Bool
@@ -103,6 +110,11 @@ pub record AreWritten (l : Lists) (first : Places) (rotations : List (List (ℕ 
   pub stable : IsStable l (stage l first written (length written))
   pub leads : LeadsTo l first written (stage l first written (length written))
   pub heap : AreReady l first rotations followers (stage l first written (length written)) unmet ready
+
+-- each rotation that a matching hasn't passed is left, begun at its lowest-numbered proposer
+pub record AreLeft (l : Lists) (first : Places) (rotations : List (List (ℕ × ℕ))) (m : Places) (left : List (List (ℕ × ℕ))) : Type 0 where
+  pub one_each : length left ≡ length rotations
+  pub each : (k : ℕ) → k < length rotations → ¬ IsPassed l first rotations m k → IsTurned (rotation_at rotations k) (rotation_at left k)
 
 -- which rotation of the chain was written n-th
 abbrev pub number_at : List ℕ → ℕ → ℕ

@@ -65,5 +65,5 @@ pub fn chain_with_needs(
     let mut notes = Notes::of(alloc, market)?;
     let rotations = walk(alloc, market, best, &mut notes)?;
     let followers = notes.into_followers();
-    in_order(alloc, market, best, &rotations, &followers)
+    in_order(alloc, market, best, rotations, &followers)
 }

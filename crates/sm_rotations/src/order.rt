@@ -8,7 +8,7 @@ ghost use Rattle.sm_market.specs.Pairing.{IsPairingOf};
 ghost use Rattle.sm_theory.specs.Chains.{rotation_at, IsCompleteChain, IsPrintedChain, AreNeeds};
 ghost use Rattle.sm_theory.specs.Values.{rotations_of};
 ghost use Rattle.sm_rotations.specs.Graph.{times, AreFollowers};
-ghost use Rattle.sm_rotations.specs.Ordering.{later_first, IsLowestPair, AreLowest, IsTurned, IsOneMore, AreReadyAtFirst, IsReleased};
+ghost use Rattle.sm_rotations.specs.Ordering.{later_first, IsLowestPair, IsLead, AreLeads, IsTurned, AreTurned, IsOneMore, AreReadyAtFirst, IsReleased};
 
 use crate::graph::{add_once, counts, lists_with_room};
 use sm_market::{Market, Pairing};
@@ -41,8 +41,8 @@ struct Written {
 /// are those that are left over and whose predecessors have all been written; they wait in a heap, by their lowest proposers.
 /// Whatever is written is noted at once, by its new number, with those that need it, so that what each one needs comes out
 /// rising. Takes time in proportion to the pairs of the rotations and to their predecessors, and to the rotations times a
-/// logarithm, and memory in proportion to the agents, the pairs and the predecessors (Gusfield and Irving 1989, section 2.5
-/// and chapter 3).
+/// logarithm, and memory in proportion to the agents, the rotations and the predecessors: each rotation is turned where it is,
+/// and moved (Gusfield and Irving 1989, section 2.5 and chapter 3).
 ///
 /// # Errors
 ///
@@ -51,13 +51,13 @@ pub(crate) fn in_order(
     alloc: Global,
     market: &Market,
     first: &Pairing,
-    rotations: &[Rotation],
+    mut rotations: Vec<Rotation>,
     followers: &[Vec<u32>],
 ) -> Result<ChainWithNeeds, AllocError>
     requires made { IsPairingOf market.now first.now }
-    requires complete { IsCompleteChain market.now first.now.places (rotations_of rotations.now) }
-    requires followers { AreFollowers market.now (rotations_of rotations.now) (length rotations.now)
-        (rows_of followers.now) }
+    requires complete { IsCompleteChain market.now first.now.places (rotations_of rotations.items) }
+    requires followers { AreFollowers market.now (rotations_of rotations.items)
+        (length rotations.items) (rows_of followers.now) }
     ensures made { IfOk result (λ c. IsPairingOf market.now c.chain.first) }
     ensures first { IfOk result (λ c. c.chain.first.places ≡ first.now.places) }
     ensures chain { IfOk result (λ c. IsPrintedChain market.now first.now.places
@@ -65,23 +65,23 @@ pub(crate) fn in_order(
     ensures needs { IfOk result (λ c. AreNeeds market.now (rotations_of c.chain.rotations.items)
         (rows_of c.needs.items)) }
 {
-    let Written { rotations, needs } = ordered(alloc, market, first, rotations, followers)?;
+    let Written { rotations, needs } = ordered(alloc, market, first, &mut rotations, followers)?;
     let first = first.copy(alloc)?;
     let chain = Chain { first, rotations };
     Ok(ChainWithNeeds { chain, needs })
 }
 
-/// The rotations of a chain in the stated order, and what each one needs.
+/// The rotations of a chain in the stated order, and what each one needs. They are moved out of those that are given.
 fn ordered(
     alloc: Global,
     market: &Market,
     first: &Pairing,
-    rotations: &[Rotation],
+    rotations: &mut [Rotation],
     followers: &[Vec<u32>],
 ) -> Result<Written, AllocError>
     requires made { IsPairingOf market.now first.now }
-    requires complete { IsCompleteChain market.now first.now.places (rotations_of rotations.now) }
-    requires followers { AreFollowers market.now (rotations_of rotations.now) (length rotations.now)
+    requires complete { IsCompleteChain market.now first.now.places (rotations_of rotations.old) }
+    requires followers { AreFollowers market.now (rotations_of rotations.old) (length rotations.old)
         (rows_of followers.now) }
     ensures chain { IfOk result (λ o. IsPrintedChain market.now first.now.places
         (rotations_of o.rotations.items)) }
@@ -93,18 +93,19 @@ fn ordered(
     let unmet = unmet.as_mut_slice();
     let mut noted = lists_with_room(alloc, unmet)?;
     let noted = noted.as_mut_slice();
-    let lows = lowest_each(alloc, rotations)?;
-    let lows = lows.as_slice();
-    let mut ready = ready_at_first(alloc, rotations, lows, unmet)?;
+    let leads = turn_each(alloc, rotations)?;
+    let leads = leads.as_slice();
+    let mut ready = ready_at_first(alloc, leads, unmet)?;
     let mut written = Vec::with_capacity(alloc, rotations.len())?;
     let mut needs = Vec::with_capacity(alloc, rotations.len())?;
     'steps: while let Some(Reverse((_, k))) = ready.pop() {
         let number = written.len() as u32;
-        written.push(turned(alloc, &rotations[k as usize].pairs, lows[k as usize])?)?;
+        let pairs = mem::replace(&mut rotations[k as usize].pairs, Vec::new(alloc));
+        written.push(Rotation { pairs })?;
         needs.push(mem::replace(&mut noted[k as usize], Vec::new(alloc)))?;
         let those = followers[k as usize].as_slice();
         add_once(number, those, noted)?;
-        release(rotations, lows, those, unmet, &mut ready)?;
+        release(leads, those, unmet, &mut ready)?;
     }
     Ok(Written {
         rotations: written,
@@ -112,18 +113,32 @@ fn ordered(
     })
 }
 
-/// For each rotation the number of the pair that has the lowest-numbered proposer.
-fn lowest_each(alloc: Global, rotations: &[Rotation]) -> Result<Vec<usize>, AllocError>
-    requires { (k : ℕ) → k < length rotations.now → 0
-        < length (rotation_at (rotations_of rotations.now) k) }
-    ensures { IfOk result (λ lows. AreLowest (rotations_of rotations.now) (length rotations.now)
-        lows.items) }
+/// Turns each rotation so that it begins at its lowest-numbered proposer, and gives these proposers.
+fn turn_each(alloc: Global, rotations: &mut [Rotation]) -> Result<Vec<u32>, AllocError>
+    requires { (k : ℕ) → k < length rotations.old → 0
+        < length (rotation_at (rotations_of rotations.old) k) }
+    ensures turned { OnOk result (AreTurned (rotations_of rotations.old) (length rotations.old)
+        (rotations_of rotations.new)) }
+    ensures leads { IfOk result (λ leads. AreLeads (rotations_of rotations.old)
+        (length rotations.old) leads.items) }
 {
-    let mut lows = Vec::with_capacity(alloc, rotations.len())?;
+    let mut leads = Vec::with_capacity(alloc, rotations.len())?;
     for k in 0..rotations.len() {
-        lows.push(lowest(&rotations[k].pairs))?;
+        leads.push(turn(&mut rotations[k]))?;
     }
-    Ok(lows)
+    Ok(leads)
+}
+
+/// Turns a rotation so that it begins at its lowest-numbered proposer, and gives this proposer.
+fn turn(rotation: &mut Rotation) -> u32
+    requires { 0 < length rotation.old.pairs.items }
+    ensures turned { IsTurned rotation.old.pairs.items rotation.new.pairs.items }
+    ensures lead { IsLead rotation.old.pairs.items result }
+{
+    let low = lowest(&rotation.pairs);
+    let lead = rotation.pairs[low].0;
+    rotation.pairs.rotate_left(low);
+    lead
 }
 
 /// The number of the pair that has the lowest-numbered proposer.
@@ -140,86 +155,62 @@ fn lowest(pairs: &[(u32, u32)]) -> usize
     best
 }
 
-/// The same cycle, begun at its lowest-numbered proposer, which is in the pair `from`.
-fn turned(alloc: Global, pairs: &[(u32, u32)], from: usize) -> Result<Rotation, AllocError>
-    requires { IsLowestPair pairs.now from }
-    ensures { IfOk result (λ r. IsTurned pairs.now r.pairs.items) }
-{
-    let mut turned = Vec::with_capacity(alloc, pairs.len())?;
-    turned.extend_from_slice(&pairs[from..])?;
-    turned.extend_from_slice(&pairs[..from])?;
-    Ok(Rotation { pairs: turned })
-}
-
 /// The rotations that need no other, by their lowest proposers.
 fn ready_at_first(
     alloc: Global,
-    rotations: &[Rotation],
-    lows: &[usize],
+    leads: &[u32],
     unmet: &[u32],
 ) -> Result<BinaryHeap<Reverse<(u32, u32)>>, AllocError>
-    requires few { length rotations.now < 2 ^ 32 }
-    requires one_each { length unmet.now ≡ length rotations.now }
-    requires lows { AreLowest (rotations_of rotations.now) (length rotations.now) lows.now }
+    requires few { length leads.now < 2 ^ 32 }
+    requires one_each { length unmet.now ≡ length leads.now }
     ensures order { IfOk result (λ h. IsHeap later_first (heap_items h)) }
-    ensures ready { IfOk result (λ h. AreReadyAtFirst (rotations_of rotations.now) unmet.now
-        (length rotations.now) (heap_items h)) }
+    ensures ready { IfOk result (λ h. AreReadyAtFirst leads.now unmet.now (length leads.now)
+        (heap_items h)) }
 {
     let mut ready = BinaryHeap::new(alloc);
-    for k in 0..rotations.len() as u32 {
+    for k in 0..leads.len() as u32 {
         if unmet[k as usize] == 0 {
-            add_ready(
-                &rotations[k as usize].pairs,
-                lows[k as usize],
-                k,
-                &mut ready,
-            )?;
+            add_ready(leads[k as usize], k, &mut ready)?;
         }
     }
     Ok(ready)
 }
 
-/// Adds a rotation, whose lowest-numbered proposer is in the pair `low`, to those that are ready.
+/// Adds a rotation with its lowest proposer to those that are ready.
 fn add_ready(
-    pairs: &[(u32, u32)],
-    low: usize,
+    lead: u32,
     k: u32,
     ready: &mut BinaryHeap<Reverse<(u32, u32)>>,
 ) -> Result<(), AllocError>
-    requires lowest { IsLowestPair pairs.now low }
-    requires order { IsHeap later_first (heap_items ready.old) }
+    requires { IsHeap later_first (heap_items ready.old) }
     ensures order { OnOk result (IsHeap later_first (heap_items ready.new)) }
-    ensures added { OnOk result (IsOneMore pairs.now k (heap_items ready.old)
-        (heap_items ready.new)) }
+    ensures added { OnOk result (IsOneMore lead k (heap_items ready.old) (heap_items ready.new)) }
 {
-    let p = pairs[low].0;
-    ready.push(Reverse((p, k)))?;
+    ready.push(Reverse((lead, k)))?;
     Ok(())
 }
 
 /// One need less for each of these rotations. Those that have no other become ready.
 fn release(
-    rotations: &[Rotation],
-    lows: &[usize],
+    leads: &[u32],
     followers: &[u32],
     unmet: &mut [u32],
     ready: &mut BinaryHeap<Reverse<(u32, u32)>>,
 ) -> Result<(), AllocError>
-    requires one_each { length unmet.old ≡ length rotations.now }
+    requires one_each { length unmet.old ≡ length leads.now }
     requires in_range { (a : ℕ) → a < length followers.now → slice_index_or followers.now a 0
-        < length rotations.now }
-    requires lows { AreLowest (rotations_of rotations.now) (length rotations.now) lows.now }
+        < length leads.now }
     requires enough { (j : ℕ) → times followers.now j ≤ slice_index_or unmet.old j 0 }
     requires order { IsHeap later_first (heap_items ready.old) }
     ensures one_each { OnOk result (length unmet.new ≡ length unmet.old) }
     ensures order { OnOk result (IsHeap later_first (heap_items ready.new)) }
-    ensures released { OnOk result (IsReleased (rotations_of rotations.now) followers.now unmet.old
+    ensures released { OnOk result (IsReleased leads.now followers.now unmet.old
         (heap_items ready.old) unmet.new (heap_items ready.new)) }
 {
     for &j in followers {
         unmet[j as usize] -= 1;
         if unmet[j as usize] == 0 {
-            add_ready(&rotations[j as usize].pairs, lows[j as usize], j, ready)?;
+            add_ready(leads[j as usize], j, ready)?;
         }
     }
     Ok(())

@@ -1,10 +1,6 @@
-use Rattle.std.proofs.Common.{◌≡◌, ℕ, ◌-◌, ◌<◌, length, ◌∙◌, arith, refl, slice_index_or}
+use Rattle.std.proofs.Common.{ℕ, ◌-◌, ◌<◌, length, ◌∙◌, arith, refl, slice_index_or}
 use Rattle.std.proofs.lemmas.List.{length-set}
-use Rattle.sm_theory.specs.Chains.{rotation_at}
-use Rattle.sm_theory.specs.Values.{rotations_of}
-use Rattle.sm_rotations.proofs.NeedsLemmas.{as_many}
 use Rattle.sm_rotations.proofs.HeapLemmas.{some_unmet, release_kept, release_fallen}
-use Rattle.sm_rotations.proofs.WrittenLemmas.{pairs_at}
 use Rattle.sm_rotations.proofs.order.release.Goals.{then-unmet-j-eq0+in_ok-add_ready, else-unmet-j-eq0}
 use Rattle.sm_rotations.proofs.order.release.Goals as goal
 
@@ -13,13 +9,6 @@ overflow_sub-unmet c =
     let j : ℕ = slice_index_or c.args.followers.now c.loop-j.j-index 0 in
     let in_range = c.requires.in_range c.loop-j.j-index c.loop-j-test.true in
     some_unmet c.args.followers.now _ _ c.loop-j-test.true refl (omega (arith, c.loop-j.auto.unmet, c.requires.one_each)) c.loop-j.invariant.released (c.requires.enough j)
-
-pub add_ready-requires-clause-lowest : goal.add_ready-requires-clause-lowest
-add_ready-requires-clause-lowest c =
-    let j : ℕ = slice_index_or c.args.followers.now c.loop-j.j-index 0 in
-    let in_range = c.requires.in_range c.loop-j.j-index c.loop-j-test.true in
-    let read : c.deref.result.now ≡ rotation_at (rotations_of c.args.rotations.now) j = c.deref.ensures.value ∙ pairs_at c.args.rotations.now j c.index-rotations-j.result in_range in
-    rw read (c.requires.lows.each j in_range)
 
 pub loop-j-preserved : goal.loop-j-preserved
 loop-j-preserved c =
@@ -30,14 +19,11 @@ loop-j-preserved c =
     let some = some_unmet c.args.followers.now _ _ c.loop-j-test.true refl within c.loop-j.invariant.released (c.requires.enough j) in
     let long = length-set c.loop-j.unmet j n ∙ c.loop-j.invariant.one_each in
     elim c.if-unmet-j-eq0.branch [
-      | then-unmet-j-eq0+in_ok-add_ready w ↦
-          let read : w.deref.result.now ≡ rotation_at (rotations_of c.args.rotations.now) j = w.deref.ensures.value ∙ pairs_at c.args.rotations.now j w.index-rotations-j.result in_range in
-          let added = rw read at w.in_ok-add_ready.ensures.added in
-          record {
-            one_each = long;
-            order = rw w.ready-is w.in_ok-add_ready.ensures.order;
-            released = rw w.ready-is (release_fallen c.args.followers.now _ _ c.loop-j-test.true refl within c.loop-j.invariant.released (c.requires.enough j) n (omega arith) w.if-unmet-j-eq0.true (omega (arith, in_range, as_many c.args.rotations.now)) added);
-          }
+      | then-unmet-j-eq0+in_ok-add_ready w ↦ record {
+        one_each = long;
+        order = rw w.ready-is w.in_ok-add_ready.ensures.order;
+        released = rw w.ready-is (release_fallen c.args.followers.now _ _ c.loop-j-test.true refl within c.loop-j.invariant.released (c.requires.enough j) n (omega arith) w.if-unmet-j-eq0.true in_range w.in_ok-add_ready.ensures.added);
+      }
       | else-unmet-j-eq0 w ↦ record {
         one_each = long;
         order = rw w.ready-is c.loop-j.invariant.order;
