@@ -89,8 +89,8 @@ fn hash_of_names(agents: &[Agent]) -> TextHash {
     digest.hash()
 }
 
-/// Whether all entries of a side are sound. Takes time in proportion to the agents and entries, and memory in proportion to the agents of
-/// the other side.
+/// Whether all entries of a side are sound. Takes time in proportion to the agents and entries, and memory in proportion to the
+/// agents of the other side.
 ///
 /// # Errors
 ///
@@ -221,7 +221,8 @@ fn checked_items(
     Ok(pairs)
 }
 
-/// The names of both sides and the pairs that are weighed. Takes time and memory in proportion to the agents, the entries and the items.
+/// The names of both sides and the pairs that are weighed. Takes time and memory in proportion to the agents, the entries and the
+/// items.
 ///
 /// # Errors
 ///

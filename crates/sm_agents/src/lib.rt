@@ -1,8 +1,8 @@
 //! What instances of stable matching problems are made of, and what is checked of it: agents with their names, capacities and
 //! lists, the pairs that are weighed, forced and forbidden, and second weights.
 //!
-//! Agents are numbered from 0 on each side, in the order of their declarations. [`checked`] and the other checks find the first thing
-//! that stands in the way of an instance, as an [`InstanceFault`].
+//! Agents are numbered from 0 on each side, in the order of their declarations. [`checked`] and the other checks find the first
+//! thing that stands in the way of an instance, as an [`InstanceFault`].
 #![tactic(auto)]
 
 mod agents;

@@ -26,8 +26,8 @@ impl Model for Pairs {
 }
 
 impl Pairs {
-    /// No pairs, which will be found by these hashes, with room for so many, so that nothing moves when they are added. Takes memory in
-    /// proportion to the room.
+    /// No pairs, which will be found by these hashes, with room for so many, so that nothing moves when they are added. Takes
+    /// memory in proportion to the room.
     ///
     /// # Errors
     ///
@@ -39,8 +39,8 @@ impl Pairs {
         Ok(Pairs { pairs })
     }
 
-    /// The pairs of weights that are all given to different ones. They will be found by these hashes. Takes time and memory in proportion
-    /// to the weights.
+    /// The pairs of weights that are all given to different ones. They will be found by these hashes. Takes time and memory in
+    /// proportion to the weights.
     ///
     /// # Errors
     ///

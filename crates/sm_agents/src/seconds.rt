@@ -11,8 +11,8 @@ use crate::pairs::Pairs;
 use sm_text::MOST_WEIGHT;
 use std::alloc::Global;
 
-/// The second weight that some items give to each of these pairs, where they give one. Takes time in proportion to the items and the
-/// pairs, and memory in proportion to the pairs.
+/// The second weight that some items give to each of these pairs, where they give one. Takes time in proportion to the items and
+/// the pairs, and memory in proportion to the pairs.
 ///
 /// # Errors
 ///

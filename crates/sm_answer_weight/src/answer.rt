@@ -36,9 +36,10 @@ pub type LightestLines<'a> = Printed<
     >,
 >;
 
-/// The head; the first seats; for each rotation of the chain its pairs, what it needs and its gains; the flow, and in two levels the
-/// second one; the set that is taken, the flow's value, the set's cut and the weight of its matching, and in two levels the same by
-/// second weights; the pairs of the matching, in the order of the proposers; and `end`. Takes constant time; the lines together take time linear in what they show.
+/// The head; the first seats; for each rotation of the chain its pairs, what it needs and its gains; the flow, and in two levels
+/// the second one; the set that is taken, the flow's value, the set's cut and the weight of its matching, and in two levels the
+/// same by second weights; the pairs of the matching, in the order of the proposers; and `end`. Takes constant time; the lines
+/// together take time linear in what they show.
 pub fn lightest_lines<'a>(
     input: &'a Input,
     instance: &Instance,

@@ -67,8 +67,8 @@ fn edge_line(level: Level, edge: FlowLine) -> Line
     }
 }
 
-/// The set that is taken, the value of the flow, the cut of the set, and the weight of its matching; in two levels then the value of
-/// the second flow, the second cut and the second sum.
+/// The set that is taken, the value of the flow, the cut of the set, and the weight of its matching; in two levels then the value
+/// of the second flow, the second cut and the second sum.
 #[derive(Drop)]
 pub struct Figures<'a> {
     pub found: &'a Lightest,

@@ -22,9 +22,9 @@ use sm_theory::FlowLine;
 use sm_weight::{LightestFound, lightest, lightest_by_one_sum};
 use std::alloc::{AllocError, Global};
 
-/// The lightest stable matching among those that the conditions of an instance allow, of those of its weight one whose second sum is
-/// least, and of these the one that is best for all proposers (Irving, Leather and Gusfield 1987). `None` exactly where no stable
-/// matching is allowed. Second sums are those of the second weights, and all 0 by ranks.
+/// The lightest stable matching among those that the conditions of an instance allow, of those of its weight one whose second sum
+/// is least, and of these the one that is best for all proposers (Irving, Leather and Gusfield 1987). `None` exactly where no
+/// stable matching is allowed. Second sums are those of the second weights, and all 0 by ranks.
 ///
 /// Takes the time and the memory of [`Basis::of`] and of [`sm_weight::lightest`].
 ///

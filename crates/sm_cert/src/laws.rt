@@ -24,8 +24,8 @@ pub fn one_misplaced()
     ensures { OneMisplaced }
 {}
 
-/// Where an answer of `list` gets a yes, its vectors are those of allowed stable matchings, and rise from the cursor. If it ends with
-/// `more`, they are as many as the limit, and `more` repeats the last one.
+/// Where an answer of `list` gets a yes, its vectors are those of allowed stable matchings, and rise from the cursor. If it ends
+/// with `more`, they are as many as the limit, and `more` repeats the last one.
 pub fn list_yes()
     ensures { ListYes }
 {}

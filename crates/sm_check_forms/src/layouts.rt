@@ -15,8 +15,8 @@ use sm_report::{Head, Keyword, Line, keyword_of};
 use sm_seats::has_two_levels;
 use std::alloc::{AllocError, Global};
 
-/// Whose turn it is among blocks of two lines, `rotation` and `needs`, of three, with `gain` behind them, or of four, with `gain2` as
-/// well.
+/// Whose turn it is among blocks of two lines, `rotation` and `needs`, of three, with `gain` behind them, or of four, with `gain2`
+/// as well.
 #[derive(Clone, Copy, Debug)]
 pub struct BlockTurn {
     /// How many lines a block has.

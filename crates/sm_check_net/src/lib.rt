@@ -7,8 +7,8 @@
 //! and [`set_places`], the matching of a set. A [`CheckedNet`] of gains, needs and bonds tells of the lines of a flow whether they
 //! are on its edges and within their rooms, and what the cut of a set is. [`is_conserved`] and [`amount_from_source`] tell of all
 //! lines together, [`is_closed`] whether a set is closed, and [`is_residual_reach`] whether it is what the flow reaches.
-//! [`second_net`] is the net whose edges without a bound are the residual steps of a flow, so that all of these tell of a flow there
-//! too.
+//! [`second_net`] is the net whose edges without a bound are the residual steps of a flow, so that all of these tell of a flow
+//! there too.
 #![tactic(auto)]
 
 mod closed;

@@ -13,11 +13,11 @@ use crate::residual::{add_if, residual_steps};
 use sm_theory::FlowLine;
 use std::alloc::{AllocError, Global};
 
-/// The second net of a flow, which is given by its lines: the residual steps of the flow that neither begin at the sink nor end at the
-/// source are its edges without a bound, and the bounded ones go by these gains (Picard and Queyranne 1980).
+/// The second net of a flow, which is given by its lines: the residual steps of the flow that neither begin at the sink nor end at
+/// the source are its edges without a bound, and the bounded ones go by these gains (Picard and Queyranne 1980).
 ///
-/// The lines are on edges of the first net. They need be neither within the rooms nor conserved. Takes time in proportion to the edges
-/// of the net and the lines, and the logarithm of their number, and memory in proportion to them.
+/// The lines are on edges of the first net. They need be neither within the rooms nor conserved. Takes time in proportion to the
+/// edges of the net and the lines, and the logarithm of their number, and memory in proportion to them.
 ///
 /// # Errors
 ///

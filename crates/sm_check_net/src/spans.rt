@@ -19,8 +19,8 @@ use std::alloc::{AllocError, Global};
 /// The unbounded edges that conditions ask for, where the moves of the rotations of a chain are given, and its first matching.
 /// Conditions are pairs of a proposer and a level, and the levels are one for each place of each proposer.
 ///
-/// A forced pair asks for an edge from the source to its entry, and one from its exit to the sink, and a forbidden one for an
-/// edge from its entry to its exit. The entry is the source where the proposer begins at the level, else the first rotation that moves
+/// A forced pair asks for an edge from the source to its entry, and one from its exit to the sink, and a forbidden one for an edge
+/// from its entry to its exit. The entry is the source where the proposer begins at the level, else the first rotation that moves
 /// it there, else the sink. The exit is the first rotation that moves it from the level to another, else the sink.
 ///
 /// Takes time in proportion to the moves and conditions and the logarithm of their number, and memory in proportion to the

@@ -31,8 +31,8 @@ use sm_check_net::{CheckedNet, is_conserved, is_residual_reach};
 use sm_report::Line;
 use std::alloc::{AllocError, Global};
 
-/// The net of the rotations and conditions, and what is kept of the lines behind the rotations: the flow with its value, in two levels
-/// the second one, the set that is taken, and the pairs of the matching of the set.
+/// The net of the rotations and conditions, and what is kept of the lines behind the rotations: the flow with its value, in two
+/// levels the second one, the set that is taken, and the pairs of the matching of the set.
 #[derive(Drop)]
 pub(crate) struct Claim {
     pub(crate) net: CheckedNet,

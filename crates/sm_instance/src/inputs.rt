@@ -119,7 +119,8 @@ impl Input {
     }
 
     /// The number of the proposer with a name, in roommates of the person. `None` exactly where no proposer has it. Takes time in
-    /// the length of the name, or in proportion to the agents of the side where an instance with two sides keeps no tables of names.
+    /// the length of the name, or in proportion to the agents of the side where an instance with two sides keeps no tables of
+    /// names.
     pub fn find_left(&self, name: &[u8]) -> Option<u32>
         ensures number { result ≡ position (bytes_eq name.now) (names_of (left_of self.now)) }
         ensures in_range { IfSome result (λ n. n < length (left_of self.now)) }
@@ -131,7 +132,8 @@ impl Input {
     }
 
     /// The number of the reviewer with a name, in roommates of the person. `None` exactly where no reviewer has it. Takes time in
-    /// the length of the name, or in proportion to the agents of the side where an instance with two sides keeps no tables of names.
+    /// the length of the name, or in proportion to the agents of the side where an instance with two sides keeps no tables of
+    /// names.
     pub fn find_right(&self, name: &[u8]) -> Option<u32>
         ensures number { result ≡ position (bytes_eq name.now) (names_of (right_of self.now)) }
         ensures in_range { IfSome result (λ n. n < length (right_of self.now)) }

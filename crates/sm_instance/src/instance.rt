@@ -32,8 +32,8 @@ use std::marker::Model;
 /// the place of the list's owner on the other list, and from [`Instance::keep_names`] on tables of the names, so that no later call
 /// searches lists or agents. [`Instance::build`] keeps both from the start. The times that calls say are those of an instance that
 /// keeps both. Without cross places each look at one takes time in the length of a list, and to ask who lists a reviewer takes time
-/// in proportion to all entries. It takes memory in proportion to the agents, the entries and the weights, and none for each pair of
-/// agents.
+/// in proportion to all entries. It takes memory in proportion to the agents, the entries and the weights, and none for each pair
+/// of agents.
 #[derive(Drop)]
 pub struct Instance {
     kind: Kind,
@@ -119,10 +119,9 @@ impl Instance {
         )?)
     }
 
-    /// An instance of parts that are known to make one. Nothing is tried. Pairs, and names where
-    /// they are kept, will be found by these hashes, which shouldn't be known to whoever chose them. Neither cross places nor
-    /// tables of names are kept: see [`Instance::keep_crosses`] and [`Instance::keep_names`]. Takes time and memory in proportion to
-    /// the agents and weights.
+    /// An instance of parts that are known to make one. Nothing is tried. Pairs, and names where they are kept, will be found by
+    /// these hashes, which shouldn't be known to whoever chose them. Neither cross places nor tables of names are kept: see
+    /// [`Instance::keep_crosses`] and [`Instance::keep_names`]. Takes time and memory in proportion to the agents and weights.
     ///
     /// # Errors
     ///

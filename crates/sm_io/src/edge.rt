@@ -31,8 +31,8 @@ impl<R: Read> Source for ReadSource<R> {
 
     ghost faults = { λ s. source_faults s };
 
-    /// Reads once. `End` is a read of no bytes, as with an empty `into`; any error of the reader, also an interrupted read, is `Failed`.
-    /// Where the reader tells its bytes, those that are given are its next ones.
+    /// Reads once. `End` is a read of no bytes, as with an empty `into`; any error of the reader, also an interrupted read, is
+    /// `Failed`. Where the reader tells its bytes, those that are given are its next ones.
     fn take(&mut self, into: &mut [u8]) -> Taken
         ensures taken { Takes None None result into.new }
         ensures later { source_faults self.old ≤ source_faults self.new }

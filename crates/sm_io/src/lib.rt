@@ -1,8 +1,8 @@
 //! Sources and sinks of bytes with counts of faults.
 //!
 //! A [`Source`] gives bytes and a [`Sink`] takes them, piece by piece. Each counts its faults: a count of faults begins with 0,
-//! never falls and stops at the greatest `u64`. A call answers `Failed` only where its object's count rose, or stands there already.
-//! So a caller that reports a failed read or write can show that there was a fault, whatever the object is.
+//! never falls and stops at the greatest `u64`. A call answers `Failed` only where its object's count rose, or stands there
+//! already. So a caller that reports a failed read or write can show that there was a fault, whatever the object is.
 //!
 //! - [`MemSource`] and [`MemSink`] work in memory and fail at chosen calls.
 //! - [`SteadySource`] and [`SteadySink`] work in memory and never fail.

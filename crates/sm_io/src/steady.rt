@@ -66,7 +66,8 @@ impl Source for SteadySource {
     }
 }
 
-/// A sink in memory that never fails. It tells the bytes put while they fit its room, and none from then on. Its count of faults is 0.
+/// A sink in memory that never fails. It tells the bytes put while they fit its room, and none from then on. Its count of faults is
+/// 0.
 #[derive(Drop)]
 pub struct SteadySink {
     bytes: Vec<u8>,

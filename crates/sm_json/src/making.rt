@@ -26,7 +26,8 @@ use std::alloc::{AllocError, Global};
 /// The JSON of an instance: one object without spaces, in which members stand in the order of their names.
 ///
 /// [`crate::to_text`] gives the text of the printed instance for it. `weights`, `forced` and `forbidden` stand only where they
-/// aren't empty, `order` only where it isn't that of the proposers' lines, and a second weight only where it isn't 0. Takes time in proportion to what is given, and memory for each name that is listed.
+/// aren't empty, `order` only where it isn't that of the proposers' lines, and a second weight only where it isn't 0. Takes time in
+/// proportion to what is given, and memory for each name that is listed.
 ///
 /// # Errors
 ///

@@ -48,8 +48,8 @@ impl<'a> Key<'a> {
         }
     }
 
-    /// The key of one to eight bytes with which eight bytes begin. `first` is the number that the eight make, the first one least. Takes
-    /// constant time.
+    /// The key of one to eight bytes with which eight bytes begin. `first` is the number that the eight make, the first one least.
+    /// Takes constant time.
     #[inline(always)]
     pub(crate) fn beginning(text: &'a [u8], first: u64) -> Key<'a>
         requires enough { 1 ≤ length text.now }

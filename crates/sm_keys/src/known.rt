@@ -23,9 +23,9 @@ pub(crate) struct Known<'b, 'a> {
     pub(crate) names: &'b [Key<'a>],
 }
 
-/// Lists the next names on a line, up to one that isn't where it is guessed or has this stamp, and answers the place behind them. No
-/// call stands in a loop, so that what it reads stays in registers, and names among the last eight bytes have a loop of their own, so
-/// that nothing is tested for them where the others are read.
+/// Lists the next names on a line, up to one that isn't where it is guessed or has this stamp, and answers the place behind them.
+/// No call stands in a loop, so that what it reads stays in registers, and names among the last eight bytes have a loop of their
+/// own, so that nothing is tested for them where the others are read.
 #[inline(always)]
 pub(crate) fn list_known(
     known: Known<'_, '_>,
@@ -78,8 +78,8 @@ fn stamp_name(stamps: &mut [u32], index: u32, stamp: u32) -> bool
     true
 }
 
-/// Has the first name on a line at most eight bytes? Longer ones can't be guessed at, and tokens are cut faster together than one by
-/// one. Nothing needs the answer to be so.
+/// Has the first name on a line at most eight bytes? Longer ones can't be guessed at, and tokens are cut faster together than one
+/// by one. Nothing needs the answer to be so.
 pub(crate) fn begins_short(line: &[u8]) -> bool {
     let at = behind_blank(line, 0);
     if line.len() <= at || line.len() - at <= 8 {
@@ -108,8 +108,8 @@ fn name_at(known: Known<'_, '_>, line: &[u8], at: usize, last: usize) -> Option<
     }
 }
 
-/// The index of the name that stands at a place among the last eight bytes and ends the line or has one blank behind it, and the place
-/// behind it or the blank; `None` where it isn't where it is guessed. A line of fewer bytes has none.
+/// The index of the name that stands at a place among the last eight bytes and ends the line or has one blank behind it, and the
+/// place behind it or the blank; `None` where it isn't where it is guessed. A line of fewer bytes has none.
 #[inline(always)]
 fn name_at_end(known: Known<'_, '_>, line: &[u8], at: usize, last: usize) -> Option<(u32, usize)>
     requires { last ≡ length line.now - 8 }
@@ -165,8 +165,8 @@ fn eight_from(line: &[u8], at: usize) -> u64
     ])
 }
 
-/// How many of eight bytes stand before the first that may be a blank. The lowest byte that is marked is the first below 33, and nothing
-/// needs this to be so.
+/// How many of eight bytes stand before the first that may be a blank. The lowest byte that is marked is the first below 33, and
+/// nothing needs this to be so.
 #[inline(always)]
 fn guessed_len(first: u64) -> usize
     ensures { result ≤ 8 }

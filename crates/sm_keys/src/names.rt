@@ -203,8 +203,8 @@ impl<'a> Names<'a> {
         }
     }
 
-    /// The number under which a name is declared, by its hash. Never inlined, so that a name whose index is guessed pays nothing for
-    /// it.
+    /// The number under which a name is declared, by its hash. Never inlined, so that a name whose index is guessed pays nothing
+    /// for it.
     #[inline(never)]
     fn look_up(&self, name: &[u8]) -> Option<u32>
         ensures { result ≡ position (bytes_eq name.now) self.now.declared }
@@ -293,9 +293,9 @@ impl<'a> Names<'a> {
         Ok(Some(indexes))
     }
 
-    /// Lists the names on a list as it stands on the line of a number: their indexes, instead of what the vector holds. `false` where
-    /// something else stands on it, or a name twice; names may have been added then, and none has this number. Takes the time of
-    /// [`Names::declare`] for each name, and memory in proportion to the line.
+    /// Lists the names on a list as it stands on the line of a number: their indexes, instead of what the vector holds. `false`
+    /// where something else stands on it, or a name twice; names may have been added then, and none has this number. Takes the time
+    /// of [`Names::declare`] for each name, and memory in proportion to the line.
     ///
     /// # Errors
     ///
@@ -349,8 +349,8 @@ impl<'a> Names<'a> {
         Ok(true)
     }
 
-    /// Lists the next names on a line, up to one that isn't where it is guessed or stands on the line already, and answers the place
-    /// behind them.
+    /// Lists the next names on a line, up to one that isn't where it is guessed or stands on the line already, and answers the
+    /// place behind them.
     fn list_known(&mut self, line: &[u8], from: usize, stamp: u32, indexes: &mut Vec<u32>) -> usize
         requires some { 0 < stamp }
         requires room { vec_len indexes.old + (length line.now - from) ≤ vec_capacity indexes.old }
@@ -465,8 +465,8 @@ fn has_index(names: &[Key<'_>], name: Key<'_>, index: u32) -> bool
     }
 }
 
-/// The room for the names of a side of which there are so many. Where they are more than a side has agents, the text will be refused,
-/// and may go on with names up to the limit of entries.
+/// The room for the names of a side of which there are so many. Where they are more than a side has agents, the text will be
+/// refused, and may go on with names up to the limit of entries.
 fn room_for(names: usize) -> usize {
     if names > MOST_AGENTS {
         MOST_ENTRIES

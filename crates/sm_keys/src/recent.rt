@@ -16,8 +16,8 @@ const ODD: u64 = 0x9E37_79B9_7F4A_7C15;
 /// The indexes of names that were met of late, which spare most look-ups in a set.
 ///
 /// A name falls to a pair by its word and its length, and others may fall to the same. A pair has the two indexes that were noted
-/// there last, the newer one first, so what is found in it are guesses, which whoever asks has to test. Names that were chosen to fall
-/// to one pair are all looked up in the set, and no more.
+/// there last, the newer one first, so what is found in it are guesses, which whoever asks has to test. Names that were chosen to
+/// fall to one pair are all looked up in the set, and no more.
 #[derive(Drop)]
 pub struct Recent {
     /// The pairs, of zeros where nothing was noted. There is none before the first index is noted.
@@ -96,8 +96,8 @@ impl Guesses<'_> {
     }
 }
 
-/// The pair of a name. Its length counts, since many names have the same ends, as `w12` and `w112` have. It is put where the ends of
-/// names seldom differ.
+/// The pair of a name. Its length counts, since many names have the same ends, as `w12` and `w112` have. It is put where the ends
+/// of names seldom differ.
 #[inline(always)]
 fn pair_for(word: u64, len: usize) -> usize
     ensures { result < PAIRS }

@@ -58,8 +58,8 @@ pub fn line_from<'a>(bytes: &'a [u8], from: usize) -> Option<(&'a [u8], usize)>
     Some((&bytes[start..stop], next))
 }
 
-/// The word of one byte, the name and the colon with which a line begins, and `None` where it begins in another way or is a long line.
-/// Takes time in their length, and in that of the first token alone where it is no such word.
+/// The word of one byte, the name and the colon with which a line begins, and `None` where it begins in another way or is a long
+/// line. Takes time in their length, and in that of the first token alone where it is no such word.
 pub fn head_of<'a>(line: &'a [u8]) -> Option<Head<'a>>
     ensures { IfSome result (λ head. BeginsList line.now head.word.now head.name.now head.list.now) }
 {

@@ -79,7 +79,8 @@ pub fn order_is_free()
     ensures { OrderIsFree }
 {}
 
-/// Over an instance with two sides the answers of `solve` that get a yes are exactly the right ones, but for the order of the pairs.
+/// Over an instance with two sides the answers of `solve` that get a yes are exactly the right ones, but for the order of the
+/// pairs.
 pub fn solve_exactly()
     ensures { SolveExactly }
 {

@@ -22,8 +22,8 @@ pub struct StayRanks<'a> {
     pub stays: Rows,
 }
 
-/// The ranks of the stays of matched proposers. Takes time and memory in proportion to these stays and the proposers, and for a stay
-/// that isn't at the place behind that of the stay before also the logarithm of its proposer's places.
+/// The ranks of the stays of matched proposers. Takes time and memory in proportion to these stays and the proposers, and for a
+/// stay that isn't at the place behind that of the stay before also the logarithm of its proposer's places.
 ///
 /// # Errors
 ///

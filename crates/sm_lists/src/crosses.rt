@@ -102,7 +102,8 @@ pub fn namings<N: KeptNaming>(
     Ok(namings)
 }
 
-/// Adds the namings of one list. As those of `note_list` and `write_namings`, its loop is never inlined, so that it has all registers.
+/// Adds the namings of one list. As those of `note_list` and `write_namings`, its loop is never inlined, so that it has all
+/// registers.
 #[inline(never)]
 fn add_namings<N: KeptNaming>(
     namings: &mut Packed<N>,

@@ -1,8 +1,9 @@
 //! Lists of numbers, by owner and place, and counting: what the markets and the instances stand on.
 //!
-//! The agents of a side are numbered from 0, each has a list of agents, best first, and places on a list are counted from
-//! 0. Definitions are in `specs`: lists by row and place, the limits of a side, cross places, who names whom, orders that have
-//! each agent once, and the order of vectors. Lemmas are in `proofs`: places on a list, what one changed item changes, decisions and the pigeonhole.
+//! The agents of a side are numbered from 0, each has a list of agents, best first, and places on a list are counted from 0.
+//! Definitions are in `specs`: lists by row and place, the limits of a side, cross places, who names whom, orders that have each
+//! agent once, and the order of vectors. Lemmas are in `proofs`: places on a list, what one changed item changes, decisions and the
+//! pigeonhole.
 #![tactic(auto)]
 
 mod cells;

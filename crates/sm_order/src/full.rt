@@ -6,8 +6,8 @@ ghost use Rattle.sm_order.specs.Full.{full_order};
 
 use std::alloc::{AllocError, Global};
 
-/// All numbers below a count: first these, in their order, and then the others, which rise. Takes time and memory in proportion to the
-/// count.
+/// All numbers below a count: first these, in their order, and then the others, which rise. Takes time and memory in proportion to
+/// the count.
 ///
 /// # Errors
 ///

@@ -71,8 +71,8 @@ fn ranks_of_places(
     weights
 }
 
-/// The same by second weights, which are all 0 where places are weighed by ranks. Takes time and memory in proportion to the places,
-/// and a look-up for each where [`has_two_levels`] says yes.
+/// The same by second weights, which are all 0 where places are weighed by ranks. Takes time and memory in proportion to the
+/// places, and a look-up for each where [`has_two_levels`] says yes.
 ///
 /// # Errors
 ///

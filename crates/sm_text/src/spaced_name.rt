@@ -5,8 +5,8 @@ ghost use Rattle.sm_text.specs.Writer.{IsSpacedName};
 /// How many bytes are put at once.
 pub(crate) const WIDTH: usize = 16;
 
-/// A space and a name behind it, where both together have at most sixteen bytes, as nearly all have. All sixteen are put into a line
-/// at once, whatever the name's length.
+/// A space and a name behind it, where both together have at most sixteen bytes, as nearly all have. All sixteen are put into a
+/// line at once, whatever the name's length.
 #[derive(Clone, Copy, Debug)]
 pub struct SpacedName {
     /// The space, the name, and bytes that mean nothing.

@@ -179,8 +179,9 @@ pub fn second_reach_is_best()
     ensures { SecondReachIsBest }
 {}
 
-/// There, where two flows fill the cuts of a closed set whose matching is allowed, the second flow in the second net of the first, and
-/// where the second flow reaches just that set, its matching is lightest by both sums, and no proposer does better in another that is.
+/// There, where two flows fill the cuts of a closed set whose matching is allowed, the second flow in the second net of the first,
+/// and where the second flow reaches just that set, its matching is lightest by both sums, and no proposer does better in another
+/// that is.
 pub fn certificate_of_two()
     ensures { CertificateOfTwo }
 {}

@@ -32,18 +32,18 @@ pub struct TwoCuts {
     pub second_value: u64,
 }
 
-/// A maximum flow in the net with so many inner nodes and these edges, one in its second net, and what that one reaches. `None` where
-/// a path of edges without a bound leads from the source to the sink.
+/// A maximum flow in the net with so many inner nodes and these edges, one in its second net, and what that one reaches. `None`
+/// where a path of edges without a bound leads from the source to the sink.
 ///
-/// Node 0 is the source, the inner nodes follow, and the last node is the sink. The edges are those of a net in the order of their ends,
-/// each once, where they are to mean something. The second net has the residual steps of the first flow that neither begin at the sink
-/// nor end at the source for its edges without a bound, and the bounded ones go by the gains: from the source to the inner nodes with
-/// negative ones, and from those with positive ones to the sink. So its cuts are the least cuts of the first net, and what the second
-/// flow reaches is the smallest of those whose cut is least in both nets (Picard and Queyranne 1980). Where all gains are 0 no second
-/// flow is looked for: nothing flows, and the members are what the first flow reaches.
+/// Node 0 is the source, the inner nodes follow, and the last node is the sink. The edges are those of a net in the order of their
+/// ends, each once, where they are to mean something. The second net has the residual steps of the first flow that neither begin at
+/// the sink nor end at the source for its edges without a bound, and the bounded ones go by the gains: from the source to the inner
+/// nodes with negative ones, and from those with positive ones to the sink. So its cuts are the least cuts of the first net, and
+/// what the second flow reaches is the smallest of those whose cut is least in both nets (Picard and Queyranne 1980). Where all
+/// gains are 0 no second flow is looked for: nothing flows, and the members are what the first flow reaches.
 ///
-/// Takes what two maximum flows take, of which the second has at most twice the edges and one more for each gain, and for making its net
-/// time in proportion to these and the logarithm of their number, and memory in proportion to them.
+/// Takes what two maximum flows take, of which the second has at most twice the edges and one more for each gain, and for making
+/// its net time in proportion to these and the logarithm of their number, and memory in proportion to them.
 ///
 /// # Errors
 ///

@@ -34,19 +34,19 @@ pub struct LightestFound {
 }
 
 /// The stable pairing that is best for all proposers among the lightest that meet the conditions, by its closed set, and two flows
-/// whose values are the cuts of that set. Of two pairings the lighter has the smaller sum of weights, or an equal one and the smaller
-/// sum of second weights. `None` exactly where no stable pairing meets the conditions.
+/// whose values are the cuts of that set. Of two pairings the lighter has the smaller sum of weights, or an equal one and the
+/// smaller sum of second weights. `None` exactly where no stable pairing meets the conditions.
 ///
 /// `levels` has for each proposer one level per place and one more for being unmatched, never falling. `weights` and `seconds` have
 /// one weight per place, of size at most 1,000,000,000. The conditions name proposers that there are, and are fewer than 2^24.
 ///
-/// Where all second gains are 0 no second flow is looked for: nothing flows in the second net, its cut is 0, and the set is what the
-/// first flow reaches. [`lightest_by_one_sum`] finds the same without second weights.
+/// Where all second gains are 0 no second flow is looked for: nothing flows in the second net, its cut is 0, and the set is what
+/// the first flow reaches. [`lightest_by_one_sum`] finds the same without second weights.
 ///
 /// The net has a node for each rotation. Edges lead from the source to the rotations with negative gains, from those with positive
-/// gains to the sink, from each rotation to its predecessors, and, for the conditions, between the rotations that bring a proposer to
-/// a level and take it from there. Takes time in proportion to the chain, to the needs and conditions with the logarithm of their
-/// number, and what two maximum flows take (Irving, Leather and Gusfield 1987; Gusfield and Irving 1989, chapter 3).
+/// gains to the sink, from each rotation to its predecessors, and, for the conditions, between the rotations that bring a proposer
+/// to a level and take it from there. Takes time in proportion to the chain, to the needs and conditions with the logarithm of
+/// their number, and what two maximum flows take (Irving, Leather and Gusfield 1987; Gusfield and Irving 1989, chapter 3).
 ///
 /// # Errors
 ///
@@ -77,9 +77,9 @@ pub fn lightest(
     with_second_gains(alloc, poset, levels, weights, conditions, second_gains)
 }
 
-/// The stable pairing that is best for all proposers among the lightest that meet the conditions, by its closed set, and a flow whose
-/// value is the cut of that set: what [`lightest`] gives with second weights that are all 0, without a table of them. The second flow
-/// has no line. `None` exactly where no stable pairing meets the conditions.
+/// The stable pairing that is best for all proposers among the lightest that meet the conditions, by its closed set, and a flow
+/// whose value is the cut of that set: what [`lightest`] gives with second weights that are all 0, without a table of them. The
+/// second flow has no line. `None` exactly where no stable pairing meets the conditions.
 ///
 /// `levels` has for each proposer one level per place and one more for being unmatched, never falling. `weights` has one weight per
 /// place, of size at most 1,000,000,000. The conditions name proposers that there are, and are fewer than 2^24.
