@@ -1,7 +1,8 @@
 -- Proposals, one by one.
-use Rattle.std.proofs.Common.{◌≡◌, ◌≢◌, ℕ, suc, ◌+◌, ◌-◌, ◌<◌, ◌≤◌, ◌⊎◌, List, [], ◌∷◌, Option, Some, None, length, get_or, set, replicate, unwrap_or, Fits, w32, refl, sym, ap, subst, ◌∙◌, arith, ⊎_elim, inl, inr}
+use Rattle.std.proofs.Common.{◌≡◌, ◌≢◌, ℕ, ◌+◌, ◌-◌, ◌<◌, ◌≤◌, ◌⊎◌, List, [], Option, Some, None, length, get_or, set, replicate, unwrap_or, Fits, w32, map, refl, sym, ap, subst, ◌∙◌, arith, ⊎_elim, inl, inr}
 use Rattle.std.proofs.lemmas.Bool.{cases_lt, cases_eq}
-use Rattle.std.proofs.lemmas.List.{get_or_past, get_or-replicate, length-replicate, get_or-set_same, get_or-set_other, length-set}
+use Rattle.std.proofs.lemmas.List.{get_or_past, get_or-replicate, length-map, length-replicate, get_or-set_same, get_or-set_other, length-set}
+use Rattle.std.proofs.Math.ListN.{get_or-map}
 use Rattle.std.proofs.lemmas.List.Sums.{sum_by-set}
 use Rattle.std.specs.List.{sum_by}
 use Rattle.sm_market.specs.Lists.{Lists, row, entry, place_of, IsMarket}
@@ -20,6 +21,13 @@ zeros n p =
     let zero : ℕ = 0 in
     let long = length-replicate n zero in
     ⊎_elim (λ l. get_or-replicate n p zero zero l) (λ l. get_or_past (replicate n zero) p zero (omega arith)) (cases_lt p n)
+
+-- every reviewer whose standing is the length of its list is free
+pub free_past_lists : (l : Lists) (standings : List ℕ) → standings ≡ map (λ list. length list) l.reviewers → AreFree l standings
+free_past_lists l standings e = record {
+  one_each = ap length e ∙ length-map l.reviewers (λ list. length list);
+  free = λ r. ap (λ list. get_or list r 0) e ∙ get_or-map (λ list. length list) l.reviewers r [];
+}
 
 -- before anybody proposes
 pub progress_start : (l : Lists) (next standings : List ℕ) → next ≡ replicate (length l.proposers) 0 → AreFree l standings → IsProgress l 0 0 next standings

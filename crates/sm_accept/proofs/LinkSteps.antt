@@ -1,11 +1,11 @@
 -- Linking the numbers that are in, and taking out the last pair of a reviewer's list.
-use Rattle.std.proofs.Common.{◌≡◌, ◌≢◌, ℕ, ◌+◌, ◌-◌, ◌<◌, ◌≤◌, ◌⊎◌, inl, inr, arith, refl, sym, ap, ◌∙◌, List, [], length, set, get_or}
-use Rattle.std.proofs.lemmas.List.{get_or_past, get_or-map, get_or-set_same, get_or-set_other, length-set, length-map}
+use Rattle.std.proofs.Common.{◌≡◌, ◌≢◌, ℕ, ◌+◌, ◌-◌, ◌<◌, ◌≤◌, ◌⊎◌, inl, inr, arith, refl, sym, ap, ◌∙◌, List, length, set, get_or}
+use Rattle.std.proofs.lemmas.List.{get_or-set_same, get_or-set_other, length-set}
 use Rattle.sm_market.specs.Lists.{Lists, row, entry, place_of, IsMarket}
 use Rattle.sm_lists.proofs.Counting.{lt_or_le, eq_or_ne}
 use Rattle.sm_lists.proofs.PlaceLemmas.{entry-place_of}
 use Rattle.sm_market.proofs.PlaceLemmas.{place_of-entry}
-use Rattle.sm_accept.specs.Linking.{Linking, HoldsPair, IsNumberIn, Follows, AreStarts, AreLinkedBelow, IsLinkedOf, link_at, all_ends}
+use Rattle.sm_accept.specs.Linking.{Linking, HoldsPair, IsNumberIn, Follows, AreStarts, AreLinkedBelow, IsLinkedOf, link_at}
 use Rattle.sm_accept.proofs.LinkLemmas.{apart, link_in_range, in_le, held_in, in_held, follows_once, followed_once, IsTakenOut, follows_join, follows_still}
 
 -- the numbers of p's list up to `last`, which is in, are linked, and none behind it is in up to number k
@@ -119,13 +119,6 @@ all_linked all s each on long long' t = record {
   next = λ p j hp. t.forward p j (omega (arith, all, hp));
   before = λ p j hp. t.back p j (omega (arith, all, hp));
 }
-
--- the end of the list of each reviewer in the set of all pairs
-pub all_at : (l : Lists) (r : ℕ) → get_or (all_ends l) r 0 ≡ length (row l.reviewers r)
-all_at l r = elim (lt_or_le r (length l.reviewers)) [
-  | inl less ↦ get_or-map (λ list. length list) l.reviewers r [] 0 less
-  | inr past ↦ get_or_past (all_ends l) r 0 (let long = length-map l.reviewers (λ list. length list) in omega arith) ∙ sym (ap length (get_or_past l.reviewers r [] past))
-]
 
 -- taking out the last pair that is held of r's list
 module _ {l : Lists} {v : Linking} {r : ℕ} (last : ℕ) (market : IsMarket l) (made : IsLinkedOf l v) (hr : r < length l.reviewers) (end_is : get_or v.ends r 0 ≡ last + 1) where

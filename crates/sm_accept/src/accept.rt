@@ -9,9 +9,10 @@ ghost use Rattle.sm_market.specs.Lists.{row, entry, IsMarket};
 ghost use Rattle.sm_market.specs.Limits.{IsWithinLimits};
 ghost use Rattle.sm_market.specs.Stable.{IsProposersBest, IsReviewersBest};
 ghost use Rattle.sm_market.specs.Pairing.{IsPairingOf};
-ghost use Rattle.sm_accept.specs.Accepting.{AreFree, IsProgress, IsTakenIn, IsTakenFor, IsRejected, AreEnds, AreBestPlaces};
+ghost use Rattle.sm_accept.specs.Accepting.{IsProgress, IsTakenIn, IsTakenFor, IsRejected, AreEnds, AreBestPlaces};
 ghost use Rattle.sm_accept.specs.Bests.{IsWorstOfReviewers, IsBestOfReviewers};
 
+use crate::lengths::write_lengths;
 use sm_market::{Market, Pairing};
 use std::alloc::{AllocError, Global};
 
@@ -76,22 +77,13 @@ fn best_places(alloc: Global, market: &Market) -> Result<Vec<Option<u32>>, Alloc
     let mut places = vec![in alloc; None; market.proposers() as usize]?;
     let next = next.as_mut_slice();
     let standings = standings.as_mut_slice();
-    free_reviewers(market, standings);
+    // Every reviewer is free: it stands past its list.
+    write_lengths(market, standings);
     for p in 0..market.proposers() {
         let_propose(market, p, next, standings);
     }
     set_places(market, next, places.as_mut_slice());
     Ok(places)
-}
-
-/// Sets every reviewer free, each one past its list.
-fn free_reviewers(market: &Market, standings: &mut [u32])
-    requires { length standings.old ≡ length market.now.reviewers }
-    ensures { AreFree market.now standings.new }
-{
-    for r in 0..market.reviewers() {
-        standings[r as usize] = market.reviewer_len(r);
-    }
 }
 
 /// Lets one more proposer propose, and in turn each one that is turned down, until a free reviewer takes one or one is

@@ -6,6 +6,7 @@
 #![tactic(auto)]
 
 mod accept;
+mod lengths;
 mod linked;
 mod reduced;
 

@@ -1,10 +1,11 @@
 //! Sets of pairs of a market that lose pairs from the ends of the reviewers' lists.
 
 ghost use Rattle.std.specs.Prelude.{◌≡◌, ℕ, ◌↔◌, IsTrue, ◌+◌, ◌-◌, ◌<◌, ◌≤◌, length, slice_index, slice_set, replicate, IfOk, MatchOption};
-ghost use Rattle.sm_market.specs.Lists.{row, entry, place_of};
+ghost use Rattle.sm_market.specs.Lists.{row};
 ghost use Rattle.sm_accept.specs.Linking.{linking, HoldsPair, IsFirstHeld, IsHeldBehind, IsLinkedOf, AreStarts, AreLinkedBelow, AreReducedEnds, link_at, all_ends, cut_ends};
 ghost use Rattle.sm_market.specs.Pairing.{IsPairingOf};
 
+use crate::lengths::write_lengths;
 use sm_market::{Market, Pairing};
 use std::alloc::{AllocError, Global};
 use std::marker::Model;
@@ -54,7 +55,7 @@ impl Linked {
         ensures all { IfOk result (λ v. v.ends ≡ all_ends market.now) }
     {
         let mut ends = vec![in alloc; 0; market.reviewers() as usize]?;
-        set_ends(market, &mut ends);
+        write_lengths(market, &mut ends);
         Linked::with_ends(alloc, market, ends)
     }
 
@@ -258,16 +259,6 @@ fn set_link(starts: &[u32], links: &mut [u32], p: u32, number: u32, to: u32)
     ensures { links.new ≡ slice_set links.old (slice_index starts.now p + number) to }
 {
     links[starts[p as usize] as usize + number as usize] = to;
-}
-
-/// Sets the end of each reviewer's list behind all of it.
-fn set_ends(market: &Market, ends: &mut [u32])
-    requires { length ends.old ≡ length market.now.reviewers }
-    ensures { ends.new ≡ all_ends market.now }
-{
-    for r in 0..market.reviewers() {
-        ends[r as usize] = market.reviewer_len(r);
-    }
 }
 
 /// Says where each proposer's links begin, and returns how many links there are.

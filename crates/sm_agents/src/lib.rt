@@ -15,7 +15,7 @@ mod parts;
 mod seconds;
 mod spaced_sides;
 
-pub use agents::{Agent, Assignment, capacity_at, count_entries, list_at, name_at};
+pub use agents::{Agent, Assignment, capacity_at, count_entries, lent_lists, list_at, name_at};
 pub use checks::{are_within_limits, check_entries, checked, checked_names};
 pub use faults::InstanceFault;
 pub use kinds::{Kind, Measure, Side};

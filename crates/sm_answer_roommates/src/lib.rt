@@ -19,7 +19,6 @@ pub mod witnesses;
 pub use lines::{RoomLines, couple_lines, party_lines};
 pub use list::room_list_lines;
 pub use numbered::{CoupleLines, OutLines, PartyLines};
-pub use parties::parties_of;
 pub use rest::{Rest, RestLines, find_rest, rest_lines};
 pub use room_listed::RoomListed;
 pub use solution::{RoomSolution, find_roommates};

@@ -15,7 +15,7 @@ use std::alloc::{AllocError, Global};
 /// # Errors
 ///
 /// `AllocError` where memory ran out, and only then.
-pub fn parties_of(
+pub(crate) fn parties_of(
     alloc: Global,
     market: &RoomMarket,
     partition: &Partition,

@@ -23,7 +23,7 @@ pub struct SeatLines<'a> {
 }
 
 /// A seat, numbered from 0, as it is shown: its reviewer, numbered from 0, and its number there, from 1. Takes constant time.
-pub fn seat_of(seats: &Seats, seat: u32) -> Seat
+pub(crate) fn seat_of(seats: &Seats, seat: u32) -> Seat
     requires { seat < length seats.now.seats }
     ensures { result ≡ seat_of seats.now seat }
 {

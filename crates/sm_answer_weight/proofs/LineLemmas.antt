@@ -37,14 +37,14 @@ use Rattle.sm_answer_rotations.proofs.RotationLemmas.{both_sound, flat_from}
 use Rattle.sm_answer_weight.specs.WeightAnswer.{in_two, member_numbers}
 use Rattle.sm_answer_weight.specs.Found.{IsLightestOfSeats, IsFlowLine}
 use Rattle.sm_answer_weight.specs.Given.{gain_line, second_gain_line, row_lines, rows_found, edge_line, figure_line, figure_count, weight_given}
-use Rattle.sm_answer_weight.specs.declared.figures.Level.{Level}
-use Rattle.sm_answer_weight.specs.declared.figures.Level.TheVariants.{First, Second}
+use Rattle.sm_answer_weight.specs.declared.figures.FlowLevel.{FlowLevel}
+use Rattle.sm_answer_weight.specs.declared.figures.FlowLevel.TheVariants.{First, Second}
 use Rattle.sm_answer_weight.specs.declared.lightest_parts.Lightest.{Lightest}
 use Rattle.sm_answer_weight.proofs.MemberLemmas.{are_rotations}
 use Rattle.sm_answer_weight.proofs.SizeLemmas.{gain_size, weight_size}
 
 -- a line of a flow
-edge_sound : (w : Written) (level : Level) (line : FlowLine) → IsFlowLine line → IsLineOf (Two w) (edge_line level line)
+edge_sound : (w : Written) (level : FlowLevel) (line : FlowLine) → IsFlowLine line → IsLineOf (Two w) (edge_line level line)
 edge_sound w First line x = record { printable = tt; seats = λ k d l. absurd (omega arith); numbers = (x.from, x.to, x.amount); head = tt }
 edge_sound w Second line x = record { printable = tt; seats = λ k d l. absurd (omega arith); numbers = (x.from, x.to, x.amount); head = tt }
 

@@ -15,8 +15,8 @@ use Rattle.sm_answer_weight.specs.WeightAnswer.{in_two, member_numbers}
 use Rattle.sm_answer_weight.specs.declared.lightest_parts.Lightest.{Lightest}
 use Rattle.sm_answer_weight.specs.declared.gained_lines.RotationPart.{RotationPart}
 use Rattle.sm_answer_weight.specs.declared.gained_lines.RotationPart.TheVariants.{Pairs, Needs, Gain, SecondGain}
-use Rattle.sm_answer_weight.specs.declared.figures.Level.{Level}
-use Rattle.sm_answer_weight.specs.declared.figures.Level.TheVariants.{First, Second}
+use Rattle.sm_answer_weight.specs.declared.figures.FlowLevel.{FlowLevel}
+use Rattle.sm_answer_weight.specs.declared.figures.FlowLevel.TheVariants.{First, Second}
 
 -- the gain of a rotation
 abbrev pub gain_line : List ℤ → ℕ → LineData
@@ -65,12 +65,12 @@ abbrev pub most_gained : RotationPart → ℕ → ℕ
 most_gained part n = 4 * n - given_before part
 
 -- one of the flows
-abbrev pub flow_in : Level → Lightest → List FlowLine
+abbrev pub flow_in : FlowLevel → Lightest → List FlowLine
 flow_in First found = found.flow.items
 flow_in Second found = found.second_flow.items
 
 -- the line of a flow whose ends are shown
-abbrev pub edge_line : Level → FlowLine → LineData
+abbrev pub edge_line : FlowLevel → FlowLine → LineData
 edge_line First line = LineData.Flow line.from line.to line.amount
 edge_line Second line = LineData.SecondFlow line.from line.to line.amount
 

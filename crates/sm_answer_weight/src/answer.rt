@@ -9,7 +9,7 @@ ghost use Rattle.sm_seats.specs.Correspondence.{IsSeating};
 ghost use Rattle.sm_answer_weight.specs.WeightAnswer.{IsWeightAnswer};
 ghost use Rattle.sm_answer_weight.specs.Found.{IsLightestOfSeats};
 
-use crate::figures::{Figures, FlowLines, Level};
+use crate::figures::{Figures, FlowLevel, FlowLines};
 use crate::gained_lines::{GainedLines, RotationPart};
 use crate::lightest_parts::Lightest;
 use sm_answer::{Each, Lines, One, Printed, Then};
@@ -84,13 +84,13 @@ pub fn lightest_lines<'a>(
                     second: Then {
                         first: FlowLines {
                             found,
-                            level: Level::First,
+                            level: FlowLevel::First,
                             next: 0,
                         },
                         second: Then {
                             first: FlowLines {
                                 found,
-                                level: Level::Second,
+                                level: FlowLevel::Second,
                                 next: 0,
                             },
                             second: Then {

@@ -13,7 +13,7 @@ use std::alloc::{AllocError, Global};
 
 /// Which of the two flows of an answer.
 #[derive(Clone, Copy)]
-pub enum Level {
+pub enum FlowLevel {
     /// The first flow, by weights.
     First,
     /// The second flow, by second weights.
@@ -24,7 +24,7 @@ pub enum Level {
 #[derive(Drop)]
 pub struct FlowLines<'a> {
     pub found: &'a Lightest,
-    pub level: Level,
+    pub level: FlowLevel,
     pub next: usize,
 }
 
@@ -48,22 +48,22 @@ impl Answer for FlowLines<'_> {
 }
 
 /// One of the flows.
-fn flow_in(found: &Lightest, level: Level) -> &[FlowLine]
+fn flow_in(found: &Lightest, level: FlowLevel) -> &[FlowLine]
     ensures { result.now ≡ flow_in level found.now }
 {
     match level {
-        Level::First => &found.flow,
-        Level::Second => &found.second_flow,
+        FlowLevel::First => &found.flow,
+        FlowLevel::Second => &found.second_flow,
     }
 }
 
 /// The line of an amount on an edge.
-fn edge_line(level: Level, edge: FlowLine) -> Line
+fn edge_line(level: FlowLevel, edge: FlowLine) -> Line
     ensures { line_of result ≡ edge_line level edge }
 {
     match level {
-        Level::First => Line::Flow(edge.from, edge.to, edge.amount),
-        Level::Second => Line::SecondFlow(edge.from, edge.to, edge.amount),
+        FlowLevel::First => Line::Flow(edge.from, edge.to, edge.amount),
+        FlowLevel::Second => Line::SecondFlow(edge.from, edge.to, edge.amount),
     }
 }
 

@@ -41,7 +41,7 @@ struct ReducedJudge<'a> {
 
 /// A group of lines of an answer of `reduced`.
 #[derive(Drop)]
-pub(crate) enum Group {
+enum Group {
     /// The proposers' best matching.
     First,
     /// The reviewers' best matching; the proposers' was tried.

@@ -113,7 +113,7 @@ fn next_fault(
 }
 
 /// Whether a proposer holds the same place in both.
-fn stays(old: &Assignment, new: &Assignment, p: u32) -> bool
+fn holds_same_place(old: &Assignment, new: &Assignment, p: u32) -> bool
     requires old { p < length old.now.places.items }
     requires new { p < length new.now.places.items }
     ensures { IsTrue result ↔ (held old.now.places.items p ≡ held new.now.places.items p) }
@@ -148,7 +148,7 @@ fn touch_changed(instance: &Instance, old: &Assignment, new: &Assignment, touche
         (length instance.now.proposers) touched.new }
 {
     for p in 0..instance.proposer_count() {
-        if !stays(old, new, p) {
+        if !holds_same_place(old, new, p) {
             touch(instance, old, p, touched);
             touch(instance, new, p, touched);
         }
@@ -177,7 +177,7 @@ fn are_acceptable(instance: &Instance, old: &Assignment, new: &Assignment) -> bo
         → IsAcceptable instance.now p (entry instance.now.proposers p i)) }
 {
     for p in 0..instance.proposer_count() {
-        if !stays(old, new, p) && !is_acceptable(instance, new, p) {
+        if !holds_same_place(old, new, p) && !is_acceptable(instance, new, p) {
             return false;
         }
     }

@@ -66,10 +66,9 @@ impl Search {
     ///
     /// The pairing has to be made for a market of these lists; a stable one is meant. From each proposer below the bound, but for
     /// those at the front that have no successor left, the successors are followed until they end, or come to a proposer that
-    /// was come by before. Where that one was come by on
-    /// the same way, the way goes round a rotation, and otherwise round none that has proposers below the bound. So each
-    /// proposer is come by at most once, and the time is in proportion to the proposers and to the entries that are passed
-    /// for the first time (Gusfield and Irving 1989, section 2.5).
+    /// was come by before. Where that one was come by on the same way, the way goes round a rotation, and otherwise round none that
+    /// has proposers below the bound. So each proposer is come by at most once, and the time is in proportion to the proposers and
+    /// to the entries that are passed for the first time (Gusfield and Irving 1989, section 2.5).
     pub fn none_below(&mut self, market: &Market, m: &Pairing, bound: u32) -> bool
         requires bound { bound ≤ length market.now.proposers }
         requires made { IsPairingOf market.now m.now }

@@ -60,7 +60,7 @@ impl<'a> RoomLists<'a> {
     }
 
     /// A person's list, best first. Takes constant time.
-    pub fn list(&self, x: u32) -> &[u32]
+    fn list(&self, x: u32) -> &[u32]
         requires { x < length self.now }
         ensures list { result.now ≡ row self.now x }
         ensures fits { length result.now < 2 ^ 24 }

@@ -45,14 +45,14 @@ impl Trail {
     }
 
     /// Forgets all numbers, in constant time.
-    pub fn clear(&mut self)
+    pub(crate) fn clear(&mut self)
         ensures { self.new ≡ record { bound = self.old.bound; items = [] } }
     {
         self.count = 0;
     }
 
     /// Below which bound the numbers are. Takes constant time.
-    pub fn bound(&self) -> u32
+    pub(crate) fn bound(&self) -> u32
         ensures bound { result ≡ self.now.bound }
         ensures trail { IsTrail self.now }
     {
@@ -85,7 +85,7 @@ impl Trail {
     }
 
     /// In which turn a number was come by, counted from 0. Takes constant time.
-    pub fn spot(&self, p: u32) -> u32
+    pub(crate) fn spot(&self, p: u32) -> u32
         requires below { p < self.now.bound }
         requires has { Contains self.now.items p }
         ensures in_trail { result < length self.now.items }

@@ -33,4 +33,4 @@ pub use repeats::repeated_lines;
 pub use residual::is_residual_reach;
 pub use second::second_net;
 pub use set_matching::set_places;
-pub use spans::bonds;
+pub use spans::{bonds, moves_at};

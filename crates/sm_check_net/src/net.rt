@@ -73,7 +73,7 @@ impl CheckedNet {
     }
 
     /// The numbers of the rotations that a rotation needs, rising. Rotations are numbered from 0 here. Takes constant time.
-    pub fn needs(&self, k: u32) -> &[u32]
+    pub(crate) fn needs(&self, k: u32) -> &[u32]
         requires { k < (net_of_parts self.now).size }
         ensures needs { result.now ≡ row self.now.needs k }
         ensures numbers { (a : ℕ) → a < length result.now → slice_index result.now a
@@ -98,7 +98,7 @@ impl CheckedNet {
 
     /// Whether an unbounded edge leads from one node to another. Takes time in proportion to the logarithm of the numbers of
     /// needs and of bonds.
-    pub fn is_unbounded(&self, from: u32, to: u32) -> bool
+    fn is_unbounded(&self, from: u32, to: u32) -> bool
         ensures { result ≡ is_unbounded (net_of_parts self.now) from to }
     {
         if to == 0 || from == to || self.is_through(from, to) {
@@ -115,7 +115,7 @@ impl CheckedNet {
     }
 
     /// The room of the bounded edge from one node to another, and 0 where there is none. Takes constant time.
-    pub fn room(&self, from: u32, to: u32) -> u64
+    fn room(&self, from: u32, to: u32) -> u64
         ensures { result ≡ room_of (net_of_parts self.now) from to }
     {
         if to == 0 {
@@ -153,7 +153,7 @@ impl CheckedNet {
 
     /// Whether an edge leads from one node to another. Takes time in proportion to the logarithm of the numbers of needs and of
     /// bonds.
-    pub fn has_edge(&self, from: u32, to: u32) -> bool
+    fn has_edge(&self, from: u32, to: u32) -> bool
         ensures { IsTrue result ↔ HasEdge (net_of_parts self.now) from to }
     {
         self.is_unbounded(from, to) || self.room(from, to) > 0
@@ -167,8 +167,8 @@ impl CheckedNet {
     }
 
     /// Whether the line of this number, counted from 0, is on an edge of the net that no line before it is on, where of each line
-    /// it is known whether an earlier one leads from the same node to the same node. Takes time as
-    /// [`has_edge`](CheckedNet::has_edge) does.
+    /// it is known whether an earlier one leads from the same node to the same node. Takes time
+    /// in proportion to the logarithm of the numbers of needs and of bonds.
     pub fn is_new_edge(&self, lines: &[FlowLine], repeats: &[bool], a: usize) -> bool
         requires in_range { a < length lines.now }
         requires repeats { AreRepeats lines.now repeats.now }

@@ -213,8 +213,8 @@ fn mark_all(passages: Passages, moves: &[Vec<Move>], keys: &Pairs, sink: u32, no
     }
 }
 
-/// The moves of a rotation.
-pub(crate) fn moves_at(moves: &[Vec<Move>], k: usize) -> &[Move]
+/// The moves of a rotation. Rotations are numbered from 0. Takes constant time.
+pub fn moves_at(moves: &[Vec<Move>], k: usize) -> &[Move]
     requires { k < length moves.now }
     ensures { result.now ≡ row_of_moves (moves_in moves.now) k }
 {

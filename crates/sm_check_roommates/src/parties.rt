@@ -13,6 +13,7 @@ use crate::persons::room_lists;
 use sm_check_clauses::{Judge, Reason, Verdict, judge_lines};
 use sm_check_decide::{RoomLists, is_stable_partition};
 use sm_instance::Persons;
+use sm_lists::first_numbers;
 use sm_market::next_in;
 use sm_report::Line;
 use std::alloc::{AllocError, Global};
@@ -123,7 +124,7 @@ impl Parties {
         ensures { IfOk result (λ none. ArePartiesHeld persons [] none.next.items none.met.items
             none.odd) }
     {
-        let next = themselves(alloc, persons)?;
+        let next = first_numbers(alloc, persons)?;
         let met = vec![in alloc; false; persons as usize]?;
         Ok(Parties {
             next,
@@ -143,7 +144,7 @@ impl Parties {
             → KeepsParty parties party.now (length self.old.met.items) self.new.next.items
             self.new.met.items self.new.odd result }
     {
-        if !meet(&mut self.met, party) {
+        if !mark_party(&mut self.met, party) {
             return false;
         }
         link(&mut self.next, party);
@@ -152,20 +153,8 @@ impl Parties {
     }
 }
 
-/// The persons by number.
-fn themselves(alloc: Global, persons: u32) -> Result<Vec<u32>, AllocError>
-    ensures count { IfOk result (λ numbers. length numbers.items ≡ persons) }
-    ensures own { IfOk result (λ numbers. (x : ℕ) → x < persons → slice_index numbers.items x ≡ x) }
-{
-    let mut numbers = Vec::with_capacity(alloc, persons as usize)?;
-    for x in 0..persons {
-        numbers.push(x)?;
-    }
-    Ok(numbers)
-}
-
 /// Whether no person of a party was met before, nor stands in it twice. All of them are met then.
-pub(crate) fn meet(met: &mut [bool], party: &[u32]) -> bool
+fn mark_party(met: &mut [bool], party: &[u32]) -> bool
     requires { EachIndex party.now (λ j. slice_index party.now j < length met.old) }
     ensures { MeetsParty party.now met.old met.new result }
 {
@@ -180,7 +169,7 @@ pub(crate) fn meet(met: &mut [bool], party: &[u32]) -> bool
 }
 
 /// Writes who follows whom in a party: the first person follows the last one.
-pub(crate) fn link(next: &mut [u32], party: &[u32])
+fn link(next: &mut [u32], party: &[u32])
     requires in_range { EachIndex party.now (λ j. slice_index party.now j < length next.old) }
     requires distinct { (i j : ℕ) → i < j → j < length party.now → slice_index party.now i
         ≢ slice_index party.now j }
@@ -192,7 +181,7 @@ pub(crate) fn link(next: &mut [u32], party: &[u32])
 }
 
 /// Whether a party was odd, with three or more members, or this one is.
-pub(crate) fn is_odd_or(odd: bool, party: &[u32]) -> bool
+fn is_odd_or(odd: bool, party: &[u32]) -> bool
     ensures { IsTrue result ↔ (IsTrue odd ⊎ IsOdd (length party.now)) }
 {
     odd || (party.len() % 2 == 1 && party.len() >= 3)

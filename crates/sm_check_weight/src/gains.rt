@@ -6,13 +6,13 @@ ghost use Rattle.sm_market.specs.Lists.{Lists};
 ghost use Rattle.sm_theory.specs.Chains.{rotation_at};
 ghost use Rattle.sm_theory.specs.Sizes.{weights_in};
 ghost use Rattle.sm_theory.specs.Weights.{gain_of};
-ghost use Rattle.sm_check_net.specs.Moves.{moves_in, row_of_moves, AreMovesByRotation};
+ghost use Rattle.sm_check_net.specs.Moves.{moves_in, AreMovesByRotation};
 ghost use Rattle.sm_report.specs.Lines.{line_of};
 ghost use Rattle.sm_check_clauses.specs.Said.{all_needs_in};
 ghost use Rattle.sm_check_weight.specs.Gains.{CanBeWeighed};
 
 use sm_check_clauses::from_zero;
-use sm_check_net::{Move, gain};
+use sm_check_net::{Move, gain, moves_at};
 use sm_report::Line;
 use std::alloc::{AllocError, Global};
 
@@ -46,14 +46,6 @@ pub(crate) fn gains_of(
         gains.push(gain(weights, moves_at(moves, k)))?;
     }
     Ok(gains)
-}
-
-/// The moves of a rotation.
-fn moves_at(moves: &[Vec<Move>], k: usize) -> &[Move]
-    requires { k < length moves.now }
-    ensures { result.now ≡ row_of_moves (moves_in moves.now) k }
-{
-    &moves[k]
 }
 
 /// What the rotations among some lines need, by numbers from 0.

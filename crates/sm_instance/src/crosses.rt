@@ -1,13 +1,11 @@
 //! Where each agent stands on the lists of those whom it names, and who names each reviewer.
 
 ghost use Rattle.std.specs.Prelude.{◌≡◌, ◌<◌, [], length, slice_index_or, IfOk};
-ghost use Rattle.sm_lists.specs.Rows.{lists_in};
 ghost use Rattle.sm_agents.specs.Sound.{IsWithinLimits, AreSoundEntries};
-ghost use Rattle.sm_agents.specs.Written.{lists_of};
 ghost use Rattle.sm_instance.specs.Crosses.{AreCrossesOf, crosses_lent};
 ghost use Rattle.sm_agents.specs.Vectors.{agents_of};
 
-use sm_agents::Agent;
+use sm_agents::{Agent, lent_lists};
 use sm_lists::{CompactNaming, Cross, CrossPlaces, Packed, cross_places, namings};
 use std::alloc::{AllocError, Global};
 
@@ -78,8 +76,8 @@ pub(crate) fn find_crosses(
         (length (agents_of proposers.now)) }
     ensures { IfOk result (λ c. AreCrossesOf (agents_of proposers.now) (agents_of reviewers.now) c) }
 {
-    let proposers = lists(alloc, proposers)?;
-    let reviewers = lists(alloc, reviewers)?;
+    let proposers = lent_lists(alloc, proposers)?;
+    let reviewers = lent_lists(alloc, reviewers)?;
     let found = namings(alloc, &proposers, &reviewers)?;
     let CrossPlaces { rows, others } = cross_places(alloc, &proposers, &reviewers, &found)?;
     Ok(Crosses {
@@ -87,15 +85,4 @@ pub(crate) fn find_crosses(
         proposers: rows,
         reviewers: others,
     })
-}
-
-/// The agents' lists, lent one by one.
-fn lists(alloc: Global, agents: &[Agent]) -> Result<Vec<&[u32]>, AllocError>
-    ensures { IfOk result (λ lists. lists_in lists.items ≡ lists_of (agents_of agents.now)) }
-{
-    let mut lists = Vec::with_capacity(alloc, agents.len())?;
-    for agent in agents {
-        lists.push(agent.entries.as_slice())?;
-    }
-    Ok(lists)
 }

@@ -521,7 +521,7 @@ impl Instance {
 
     /// The number of the proposer with a name, `None` where there is none. Takes time in proportion to the proposers where no
     /// tables of names are kept.
-    pub fn find_proposer(&self, name: &[u8]) -> Option<u32>
+    pub(crate) fn find_proposer(&self, name: &[u8]) -> Option<u32>
         ensures number { result ≡ position (bytes_eq name.now) (names_of self.now.proposers) }
         ensures in_range { IfSome result (λ n. n < length self.now.proposers) }
     {
@@ -533,7 +533,7 @@ impl Instance {
 
     /// The number of the reviewer with a name, `None` where there is none. Takes time in proportion to the reviewers where no
     /// tables of names are kept.
-    pub fn find_reviewer(&self, name: &[u8]) -> Option<u32>
+    pub(crate) fn find_reviewer(&self, name: &[u8]) -> Option<u32>
         ensures number { result ≡ position (bytes_eq name.now) (names_of self.now.reviewers) }
         ensures in_range { IfSome result (λ n. n < length self.now.reviewers) }
     {

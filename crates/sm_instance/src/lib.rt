@@ -26,6 +26,7 @@ pub use cross_search::CrossSearch;
 pub use crosses::{Crosses, LentCrosses};
 pub use inputs::Input;
 pub use instance::Instance;
+pub use matching::held_place;
 pub use persons::Persons;
 pub use sm_agents::{Agent, Assignment, InstanceFault, Kind, Measure, Parts, Side};
 pub use sm_lists::Cross;

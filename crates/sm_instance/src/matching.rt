@@ -13,7 +13,7 @@ use sm_agents::Assignment;
 use sm_lists::{CompactNaming, earlier};
 
 /// Does a proposer hold the place at which it names a reviewer?
-pub(crate) fn holds(a: &Assignment, naming: CompactNaming) -> bool
+fn holds(a: &Assignment, naming: CompactNaming) -> bool
     requires { naming.by < length a.now.places.items }
     ensures { IsTrue result ↔ (held a.now.places.items naming.by ≡ Some naming.place) }
 {
@@ -23,8 +23,8 @@ pub(crate) fn holds(a: &Assignment, naming: CompactNaming) -> bool
     }
 }
 
-/// The place that a proposer holds.
-fn held_place(a: &Assignment, p: u32) -> Option<u32>
+/// The place that a proposer holds, counted from 0, `None` where it is unmatched. Takes constant time.
+pub fn held_place(a: &Assignment, p: u32) -> Option<u32>
     requires { p < length a.now.places.items }
     ensures { result ≡ held a.now.places.items p }
 {

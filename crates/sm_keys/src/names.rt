@@ -181,7 +181,7 @@ impl<'a> Names<'a> {
     /// # Errors
     ///
     /// `AllocError` where memory ran out, and only then.
-    pub fn meet(&mut self, name: &'a [u8], line: u32) -> Result<Option<u32>, AllocError>
+    fn list_name(&mut self, name: &'a [u8], line: u32) -> Result<Option<u32>, AllocError>
         ensures { IfOk result (λ met. MeetsName self.old self.new name.now line met) }
     {
         let index = self.intern(name)?;
@@ -284,7 +284,7 @@ impl<'a> Names<'a> {
     {
         let mut indexes = Vec::with_capacity(alloc, entries.len())?;
         'entries: while indexes.len() < entries.len() {
-            let Some(index) = self.meet(entries[indexes.len()], line)? else {
+            let Some(index) = self.list_name(entries[indexes.len()], line)? else {
                 return Ok(None);
             };
             indexes.push_reserved(index);
@@ -340,7 +340,7 @@ impl<'a> Names<'a> {
             if !token.name {
                 return Ok(false);
             }
-            let Some(index) = self.meet(&line[token.start..token.stop], stamp)? else {
+            let Some(index) = self.list_name(&line[token.start..token.stop], stamp)? else {
                 return Ok(false);
             };
             indexes.push_reserved(index);

@@ -26,7 +26,11 @@ pub fn count_members(holds: &mut [u32], members: &[bool])
 /// # Errors
 ///
 /// `AllocError` where memory ran out, and only then.
-pub fn many_members(alloc: Global, holds: &[u32], total: u32) -> Result<Vec<bool>, AllocError>
+pub(crate) fn many_members(
+    alloc: Global,
+    holds: &[u32],
+    total: u32,
+) -> Result<Vec<bool>, AllocError>
     ensures { IfOk result (λ members. members.items ≡ median_set holds.now total) }
 {
     let enough = total / 2 + 1;

@@ -8,7 +8,11 @@ use std::alloc::{AllocError, Global};
 
 /// The steps from one set of rotations to another: first a step back for each rotation that is in the left set alone, highest
 /// number first, then a step forth for each that is in the right set alone, lowest first.
-pub fn steps_of(alloc: Global, left: &[bool], right: &[bool]) -> Result<Vec<Step>, AllocError>
+pub(crate) fn steps_of(
+    alloc: Global,
+    left: &[bool],
+    right: &[bool],
+) -> Result<Vec<Step>, AllocError>
     requires each { length right.now ≡ length left.now }
     requires few { length left.now < 2 ^ 32 }
     ensures { IfOk result (λ steps. steps.items

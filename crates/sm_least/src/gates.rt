@@ -113,7 +113,7 @@ impl Gates {
     }
 
     /// The stay behind a proposer's last open one.
-    pub fn until(&self, p: u32) -> usize
+    pub(crate) fn until(&self, p: u32) -> usize
         requires { p < length self.now.until }
         ensures { result ≡ slice_index self.now.until p }
     {
@@ -121,7 +121,7 @@ impl Gates {
     }
 
     /// Whether no stay behind this one is open.
-    pub fn is_last(&self, p: u32, stay: usize) -> bool
+    pub(crate) fn is_last(&self, p: u32, stay: usize) -> bool
         requires { p < length self.now.until }
         ensures last { result ≡ true → slice_index self.now.until p ≤ stay + 1 }
         ensures more { result ≡ false → stay + 1 < slice_index self.now.until p }
@@ -131,7 +131,7 @@ impl Gates {
     }
 
     /// Whether a stay before a proposer's last open one is shut.
-    pub fn is_shut(&self, p: u32, stay: usize) -> bool
+    pub(crate) fn is_shut(&self, p: u32, stay: usize) -> bool
         requires proposer { p < length self.now.shut }
         requires stay { stay < length (slice_index_or self.now.shut p []) }
         ensures { result ≡ is_shut self.now p stay }

@@ -203,7 +203,7 @@ fn lift(course: &Course, gates: &Gates, held: &mut Held, p: u32, wanted: u64, ba
 
 /// Looks for the least set that fits, from the empty one on. True where there is one, which is held then. Takes no memory, and
 /// time in proportion to the stays and to what is held before and after.
-pub fn find(course: &Course, gates: &Gates, held: &mut Held) -> bool
+pub(crate) fn find(course: &Course, gates: &Gates, held: &mut Held) -> bool
     requires held { IsHeld course.now.board held.old }
     requires gates { AreGatesOf course.now.board gates.now }
     ensures held { IsHeld course.now.board held.new }

@@ -1,25 +1,23 @@
 //! The best stable matching within bounds that meets conditions.
 
-ghost use Rattle.std.specs.Prelude.{◌≡◌, ℕ, ◌<◌, ◌≤◌, ◌^◌, true, false, List, Bool, [], length, take, slice_index, IfOk};
+ghost use Rattle.std.specs.Prelude.{◌≡◌, ℕ, ◌<◌, ◌^◌, true, false, List, Bool, [], length, slice_index, IfOk};
 ghost use Rattle.sm_market.specs.Vectors.{rows_of};
 ghost use Rattle.sm_market.specs.Matching.{Places};
 ghost use Rattle.sm_market.specs.Stable.{IsStable};
 ghost use Rattle.sm_theory.specs.ClosedSets.{IsClosed, matching_of};
 ghost use Rattle.sm_theory.specs.Vectors.{AreLevels, IsAllowed, IsWithin, IsOrder, level_vector_of, AreInRange};
 ghost use Rattle.sm_poset.specs.Moves.{rotation_of};
-ghost use Rattle.sm_board.specs.Board.{IsBoard, Fits, IsLeast, IsClosedIn, firsts, level, members_in};
-ghost use Rattle.sm_board.specs.Growing.{IsLogOf};
+ghost use Rattle.sm_board.specs.Board.{IsBoard, Fits, IsLeast, firsts, level, members_in};
 ghost use Rattle.sm_theory.specs.Weights.{regret_of};
 ghost use Rattle.sm_least.specs.Gates.{AreUnbounded};
 ghost use Rattle.sm_theory.specs.Regrets.{AreRanks, IsBestBelow};
 ghost use Rattle.sm_least.specs.Regrets.{IsRanked, AreAtStays, rank_now, greatest_of};
 ghost use Rattle.sm_board.specs.BoardOf.{IsLeastWithin, IsBestAllowed};
-ghost use Rattle.sm_board.specs.Walks.{IsRaised, IsNotRaised};
 ghost use Rattle.sm_least.specs.Searches.{IsSearch, IsSame, search_of};
 ghost use Rattle.sm_least.specs.StayRanks.{AreStayRanks};
 
 use crate::gates::Gates;
-use crate::grow::{find, raise};
+use crate::grow::find;
 use crate::ranks::{StayRanks, along_stays, rank_of};
 use sm_board::{Board, Course, Held, make_board};
 use sm_market::Market;
@@ -306,44 +304,6 @@ impl Least {
         self.held.set()
     }
 
-    /// Looks for the least closed set that has what is held, fits the conditions of the last search and gives a proposer a level or
-    /// a higher one. True where there is one that changes no level before the position `bar` of the order, and it is held then;
-    /// what was held is the front of its log. Otherwise what was held is held still.
-    ///
-    /// Takes no memory, and time in proportion to what enters, its needs and the proposers that it moves.
-    pub fn raise(&mut self, p: u32, wanted: u64, bar: u32) -> bool
-        requires order { IsOrder (length self.old.course.board.leaves) self.old.course.order }
-        requires fits { Fits self.old.course.board self.old.gates self.old.held.set }
-        requires positions { bar ≤ length self.old.course.order }
-        requires proposer { p < length self.old.course.board.leaves }
-        ensures same { IsSame self.old self.new }
-        ensures course { self.new.course ≡ self.old.course }
-        ensures gates { self.new.gates ≡ self.old.gates }
-        ensures front { take (length self.old.held.log) self.new.held.log ≡ self.old.held.log }
-        ensures raised { result ≡ true → IsRaised self.old.course.board self.old.gates
-            self.old.course.order self.old.held.set p wanted bar self.new.held.set }
-        ensures nothing { result ≡ false → IsNotRaised self.old.course.board self.old.gates
-            self.old.course.order self.old.held.set p wanted bar }
-        ensures still { result ≡ false → self.new.held.log ≡ self.old.held.log }
-    {
-        raise(&self.course, &self.gates, &mut self.held, p, wanted, bar)
-    }
-
-    /// Takes back what entered last, until so many rotations are held. The first of them have to be closed, as they are where
-    /// [`Least::count`] gave this number. Takes no memory, and time in proportion to the proposers whom they move.
-    pub fn back(&mut self, count: usize)
-        requires some { count ≤ length self.old.held.log }
-        requires closed { (C : List Bool)
-            → IsLogOf self.old.course.board (take count self.old.held.log) C
-            → IsClosedIn self.old.course.board C }
-        ensures same { IsSame self.old self.new }
-        ensures course { self.new.course ≡ self.old.course }
-        ensures gates { self.new.gates ≡ self.old.gates }
-        ensures front { self.new.held.log ≡ take count self.old.held.log }
-    {
-        self.course.back(&mut self.held, count);
-    }
-
     /// What it is made of, for a walk that steps on from what is held.
     pub fn into_parts(self) -> SearchParts
         ensures parts { search_of result ≡ self }
@@ -357,22 +317,6 @@ impl Least {
             gates: self.gates,
             held: self.held,
         }
-    }
-
-    /// How many rotations are held. Takes constant time.
-    pub fn count(&self) -> usize
-        ensures { result ≡ length self.now.held.log }
-    {
-        self.held.count()
-    }
-
-    /// The levels of all proposers in the matching of what is held.
-    pub fn vector(&self) -> &[u32]
-        ensures levels { result.now ≡ self.now.held.levels }
-        ensures search { IsSearch self.now }
-    {
-        let _ = &self.market;
-        self.held.levels()
     }
 }
 

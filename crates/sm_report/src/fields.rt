@@ -100,7 +100,7 @@ pub(crate) fn put_field(
 
 /// Puts a seat behind a space: its reviewer's name, in hospitals with `/` and its number behind it.
 #[inline(always)]
-pub(crate) fn put_seat(into: &mut LineWriter, input: &Input, seat: Seat) -> Result<(), AllocError>
+fn put_seat(into: &mut LineWriter, input: &Input, seat: Seat) -> Result<(), AllocError>
     requires { IsOnRight input.now seat.reviewer }
     ensures { PutsText into.old into.new (32 ∷ seat_text input.now seat) result }
 {

@@ -4,7 +4,7 @@ use Rattle.std.proofs.lemmas.List.{get_or_append_left, get_or_push, length_push,
 use Rattle.sm_lists.specs.Rows.{row, entry, place_of}
 use Rattle.sm_lists.proofs.Counting.{lt_or_le, eq_or_ne}
 use Rattle.sm_lists.proofs.PlaceLemmas.{entry-place_of}
-use Rattle.sm_lists.proofs.PlaceLemmas.{place_on_is, place_on-lt, place_of-le}
+use Rattle.sm_lists.proofs.PlaceLemmas.{place_on_is, place_on-lt}
 use Rattle.sm_lists.proofs.ItemLemmas.{push_cases}
 use Rattle.sm_theory.specs.Rooms.{AreRoomLists}
 use Rattle.sm_theory.proofs.Room.Bridge.{listed_in_range}
@@ -107,13 +107,6 @@ lists_end {rows} {bounds} {upto} {table} g full = record {
   where
     inside : (x i : ℕ) → i < length (row table x) → x < upto
     inside x i on = let k = listed_in_range table x i on in let e = g.one_each in omega arith
-
--- who isn't met at any place has the length for a place
-pub place_missing : (rows : List (List ℕ)) (x y n : ℕ) → length (row rows x) ≤ n → ((k : ℕ) → k < n → entry rows x k ≢ y) → length (row rows x) ≡ place_of rows x y
-place_missing rows x y n le none = elim (lt_or_le (place_of rows x y) (length (row rows x))) [
-  | inl l ↦ absurd (none (place_of rows x y) (omega (arith, l, le)) (entry-place_of rows x y l))
-  | inr l ↦ omega (arith, l, place_of-le rows x y)
-]
 
 -- the bounds that are read of each list of a table are those of the table
 pub are_bounds_of : (rows table : List (List ℕ)) (bounds : List ℕ) → IsTable rows table → length bounds ≡ length rows → ((x : ℕ) → x < length rows → IsBound rows table x (get_or bounds x 0))

@@ -10,7 +10,8 @@ ghost use Rattle.sm_theory.specs.Rooms.{AreRoomLists};
 use crate::entries::check_entries;
 use crate::faults::RoomFault;
 use sm_lists::{
-    CrossPlaces, KeptPlace, Naming, Packed, cross_places, entry_at, lent, list_at, namings,
+    CrossPlaces, KeptPlace, Naming, Packed, cross_places, entry_at, first_place, lent, list_at,
+    namings,
 };
 use std::alloc::{AllocError, Global};
 use std::marker::Model;
@@ -120,6 +121,20 @@ impl RoomMarket {
         match self.crosses.at(x)[place as usize].place() {
             Some(cross) => cross,
             None => self.len(self.at(x, place)),
+        }
+    }
+
+    /// The place of `y` on `x`'s list, counted from 0, or the length of that list where `y` isn't on it. Persons are numbered
+    /// from 0, and `y` needn't be one. Looks through the list, so it takes time in proportion to the entries up to that place,
+    /// and no memory.
+    pub fn place(&self, x: u32, y: u32) -> u32
+        requires { x < length self.now }
+        ensures place { result ≡ place_of self.now x y }
+        ensures fits { result < 2 ^ 24 }
+    {
+        match first_place(self.list(x), y) {
+            Some(place) => place,
+            None => self.len(x),
         }
     }
 }

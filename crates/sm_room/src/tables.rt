@@ -1,8 +1,7 @@
 //! Tables: what is left of each list.
 
 ghost use Rattle.std.specs.Prelude.{◌≡◌, ℕ, ◌<◌, length, IfOk};
-ghost use Rattle.sm_lists.specs.Rows.{row, place_of};
-ghost use Rattle.sm_lists.specs.Rows.{rows_of};
+ghost use Rattle.sm_lists.specs.Rows.{row, rows_of};
 ghost use Rattle.sm_room.specs.Bounds.{bound_in};
 ghost use Rattle.sm_room.specs.Tables.{IsTable, IsGood, ListsLeft, AreBoundsOf, IsBound};
 ghost use Rattle.sm_room.specs.Proposing.{IsListLeft};
@@ -62,22 +61,9 @@ fn bound_of(market: &RoomMarket, table: &Table, x: u32) -> u32
     ensures { IsBound market.now table.now x result }
 {
     match table.list(x).last() {
-        Some(last) => place_on(market, x, *last),
+        Some(last) => market.place(x, *last),
         None => market.len(x),
     }
-}
-
-/// The place of a person on a list.
-fn place_on(market: &RoomMarket, x: u32, y: u32) -> u32
-    requires { x < length market.now }
-    ensures { result ≡ place_of market.now x y }
-{
-    for place in 0..market.len(x) {
-        if market.at(x, place) == y {
-            return place;
-        }
-    }
-    market.len(x)
 }
 
 /// A table in which y is first on x's list exactly when x is last on y's, and of each missing acceptable pair one of the two

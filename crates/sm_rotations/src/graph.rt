@@ -8,7 +8,7 @@ ghost use Rattle.sm_rotations.specs.Graph.{times, AreTurnedBack, AreCounts, AreC
 use std::alloc::{AllocError, Global};
 
 /// An empty list for each rotation.
-pub(crate) fn empty_lists(alloc: Global, rotations: usize) -> Result<Vec<Vec<u32>>, AllocError>
+fn empty_lists(alloc: Global, rotations: usize) -> Result<Vec<Vec<u32>>, AllocError>
     ensures { IfOk result (λ lists. rows_of lists.items ≡ replicate rotations []) }
 {
     let mut lists = Vec::with_capacity(alloc, rotations)?;

@@ -1,13 +1,13 @@
 //! What is counted of the seats of an instance by its cross places.
 
 ghost use Rattle.std.specs.Prelude.{◌≡◌, ◌<◌, ◌≤◌, length, IfOk, OnOk};
-ghost use Rattle.std.specs.List.{range_with_len};
 ghost use Rattle.sm_text.specs.Limits.{most_agents};
 ghost use Rattle.sm_seats.specs.Mutual.{mutual_row};
 ghost use Rattle.sm_seats.specs.Counted.{AreEntryCounts, acceptable_of, first_seats_of};
 ghost use Rattle.sm_seats.specs.SeatEntries.{AreFewSeats, seat_entries_before};
 
 use crate::crossed_instance::CrossedInstance;
+use sm_lists::first_numbers;
 use std::alloc::{AllocError, Global};
 
 /// What is counted of the seats of an instance by its cross places, beside the first seats.
@@ -38,7 +38,7 @@ pub(crate) fn entry_counts<'a>(
     let entries = count_entries(instance, &mut acceptable)?;
     Ok(EntryCounts {
         firsts,
-        numbers: numbers_below(alloc, firsts[reviewers])?,
+        numbers: first_numbers(alloc, firsts[reviewers])?,
         acceptable,
         entries,
     })
@@ -60,17 +60,6 @@ fn count_entries(instance: &CrossedInstance<'_>, counts: &mut Vec<u32>) -> Resul
         entries += count * acceptable;
     }
     Ok(entries)
-}
-
-/// So many numbers, from 0 on.
-fn numbers_below(alloc: Global, count: u32) -> Result<Vec<u32>, AllocError>
-    ensures { IfOk result (λ numbers. numbers.items ≡ range_with_len 0 count) }
-{
-    let mut numbers = Vec::with_capacity(alloc, count as usize)?;
-    for number in 0..count {
-        numbers.push(number)?;
-    }
-    Ok(numbers)
 }
 
 /// How many proposers are acceptable to a reviewer.

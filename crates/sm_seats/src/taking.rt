@@ -3,14 +3,14 @@
 ghost use Rattle.std.specs.Prelude.{◌≡◌, ℕ, ◌+◌, ◌<◌, ◌≤◌, false, length, replicate, None, IfOk};
 ghost use Rattle.sm_agents.specs.Written.{Written, lists_of};
 ghost use Rattle.sm_agents.specs.Sound.{IsInstance};
-ghost use Rattle.sm_instance.specs.Matching.{held, is_at as is_written_at, IsAssignment, IsMatching};
+ghost use Rattle.sm_instance.specs.Matching.{is_at as is_written_at, IsAssignment, IsMatching};
 ghost use Rattle.sm_market.specs.Limits.{IsWithinLimits};
 ghost use Rattle.sm_seats.specs.SeatMarket.{seats_before, seat_count, seats_of, seat_market};
 ghost use Rattle.sm_seats.specs.Taken.{places_taken};
 ghost use Rattle.sm_seats.specs.Taking.{AreSeatedAt};
 
 use crate::written_lists::WrittenLists;
-use sm_instance::Assignment;
+use sm_instance::{Assignment, held_place};
 use sm_market::Market;
 use std::alloc::{AllocError, Global};
 
@@ -109,14 +109,6 @@ fn is_seat_of(seats: &[(u32, u32)], seat: u32, r: u32) -> bool
     ensures { result ≡ false → (k : ℕ) → seat ≡ seats_before written r + k → seat_count written r ≤ k }
 {
     (seat as usize) < seats.len() && seats[seat as usize].0 == r
-}
-
-/// The place that a proposer holds.
-fn held_place(a: &Assignment, q: u32) -> Option<u32>
-    requires { q < length a.now.places.items }
-    ensures { result ≡ held a.now.places.items q }
-{
-    a.places[q as usize]
 }
 
 /// Is a proposer at a reviewer?

@@ -27,7 +27,7 @@ pub fn eliminate(market: &Market, m: &mut Pairing, rotation: &Rotation)
 }
 
 /// The same of a pairing that needn't be stable, as [`eliminate`] does it and at the same cost.
-pub fn move_round(market: &Market, m: &mut Pairing, rotation: &Rotation)
+fn move_round(market: &Market, m: &mut Pairing, rotation: &Rotation)
     requires made { IsPairingOf market.now m.old }
     requires exposed { IsExposed market.now m.old.places rotation.now.pairs.items }
     ensures made { IsPairingOf market.now m.new }

@@ -20,7 +20,7 @@ pub mod witnesses;
 pub use chain::Chain;
 pub use choice::{Choice, chosen_place};
 pub use closed_set::ClosedSet;
-pub use elimination::{eliminate, move_round};
+pub use elimination::eliminate;
 pub use flow_lines::FlowLine;
 pub use mark::Mark;
 pub use marks::{Marks, mark_span, note_movers};

@@ -81,13 +81,15 @@ use std::alloc::Global;
 ///
 /// The tallies are fed by `survey`, and by `make` with `show=summary`, and dropped.
 ///
-/// What is written is added to what the sink held. It depends on the bytes that the source gave and not on how they were cut. Takes
-/// time and memory linear in the bytes for `solve`, `reduced`, `meet` and `join`, beside a look-up for each name, and for `make` in
-/// those that are written. For the others those of [`sm_rotations::chain`] and [`sm_poset::Poset::of`] come besides, and then those
-/// of [`sm_answer_list::start_list`] and of each step for `list` and `survey`, of [`sm_answer_pairs::find_pairs`] and
-/// [`sm_answer_pairs::find_regret`] for `pairs` and `regret`, of [`sm_answer_weight::find_lightest`] for `weight`, of
-/// [`sm_answer_median::find_median`] for `median`, and of [`sm_answer_route::find_route`] for `route`. `check` takes those of
-/// [`sm_cert::check`], `export` those of [`sm_json::to_json`], and `form=json` those of [`sm_json::to_text`] besides.
+/// What is written is added to what the sink held. It depends on the bytes that the source gave and not on how they were cut.
+/// Takes time and memory linear in the bytes for `solve`, `reduced`, `rest`, `meet` and `join`, beside a look-up for each name, and
+/// for `make` in those that are written. For the others those of [`sm_rotations::chain`] and [`sm_poset::Poset::of`] come
+/// besides, and then those of [`sm_answer_list::start_list`] and of each step for `list` and `survey`, of
+/// [`sm_answer_pairs::find_pairs`] and [`sm_answer_pairs::find_regret`] for `pairs` and `regret`, of
+/// [`sm_answer_weight::find_lightest`] for `weight`, of [`sm_answer_median::find_median`] for `median`, and of
+/// [`sm_answer_route::find_route`] for `route`. On roommates `list` takes those of [`sm_room_list::RoomLister::advance`] for each
+/// step instead. `check` takes those of [`sm_cert::check`], `export` those of [`sm_json::to_json`], and `form=json` those of
+/// [`sm_json::to_text`] besides.
 pub fn run<S: Source, K: Sink>(
     alloc: Global,
     words: &[String],

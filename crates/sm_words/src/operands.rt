@@ -40,7 +40,7 @@ pub(crate) enum Command {
 
 /// An operand.
 #[derive(Clone, Copy, Debug, PartialEq, Eq)]
-pub(crate) enum Operand {
+enum Operand {
     Side,
     After,
     Limit,
@@ -54,7 +54,7 @@ pub(crate) enum Operand {
 
 /// The value of an operand.
 #[derive(Debug, Drop)]
-pub(crate) enum Value {
+enum Value {
     OfSide(Side),
     OfAfter(Vec<u32>),
     OfLimit(u32),

@@ -1,6 +1,6 @@
 use Rattle.std.proofs.Common.{◌≡◌, ℕ, length, replicate, rules, arith}
 use Rattle.sm_lists.proofs.ResultLemmas.{take-append_at_length}
-use Rattle.sm_accept.proofs.AcceptSteps.{progress_start}
+use Rattle.sm_accept.proofs.AcceptSteps.{free_past_lists, progress_start}
 use Rattle.sm_accept.proofs.AcceptEnds.{best_places_at}
 use Rattle.sm_accept.proofs.accept.best_places.Goals as goal
 
@@ -9,7 +9,7 @@ loop-p-init c =
     let count = c.proposers.ensures.count in
     let zero : ℕ = 0 in
     let next_is : c.as_mut_slice-next.result.now ≡ replicate (length c.args.market.now.proposers) zero = rw (← count) (search rules) in
-    progress_start c.args.market.now _ _ next_is c.free_reviewers.ensures
+    progress_start c.args.market.now _ _ next_is (free_past_lists c.args.market.now _ c.write_lengths.ensures)
 
 pub returns : goal.returns
 returns c =

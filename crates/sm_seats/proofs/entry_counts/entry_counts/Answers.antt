@@ -19,7 +19,7 @@ returns c =
     ap (λ l. get_or l reviewers 0) c.requires.firsts ∙ first_seat_at w reviewers (omega (arith, c.reviewer_count-reviewers.ensures.count)) ∙ ap (seats_before w) c.reviewer_count-reviewers.ensures.count in
     record {
       firsts = c.requires.firsts;
-      numbers = c.in_ok-numbers_below.ensures ∙ ap (range_with_len 0) seats;
+      numbers = c.in_ok-first_numbers.ensures ∙ ap (range_with_len 0) seats;
       acceptable = c.in_ok-entries.ensures.acceptable;
       entries = c.in_ok-entries.ensures.entries;
     }

@@ -24,7 +24,7 @@ returns-in_default c =
     let i = c.len-in-entries.result in
     let inside : i < length entries = omega (arith, c.entries-test.true, c.len.ensures, c.len-in-entries.ensures) in
     let none = rw c.in_default.is at c.in_ok-index.ensures in
-    listing_stuck c.args.self.now c.entries.self c.meet.new.self (texts_of entries) c.args.line i indexes.items (get_or entries i d).now (omega (arith, c.requires 0))
+    listing_stuck c.args.self.now c.entries.self c.list_name.new.self (texts_of entries) c.args.line i indexes.items (get_or entries i d).now (omega (arith, c.requires 0))
     (subst (λ n. IsListing c.args.self.now c.entries.self (texts_of entries) c.args.line n indexes.items) (sym c.len-in-entries.ensures) c.entries.invariant.listing)
     (omega (arith, inside, length-map entries (λ (x : Bor (List ℕ)). x.now))) (get_or-map (λ (x : Bor (List ℕ)). x.now) entries i d [] inside) none
 
@@ -37,8 +37,8 @@ entries-preserved c =
     let inside : i < length entries = omega (arith, c.entries-test.true, c.len.ensures, c.len-in-entries.ensures) in
     let some = rw c.in-Some.is at c.in_ok-index.ensures in
     let long : vec_len c.push_reserved.new.self ≡ i + 1 = omega (arith, c.push_reserved.ensures.len, c.len-in-entries.ensures) in
-    let more : IsListing c.args.self.now c.meet.new.self (texts_of entries) c.args.line (i + 1) (indexes.items ++ c.in-Some.index ∷ []) =
-    listing_more c.args.self.now c.entries.self c.meet.new.self (texts_of entries) c.args.line i indexes.items (get_or entries i d).now (omega (arith, c.requires 0))
+    let more : IsListing c.args.self.now c.list_name.new.self (texts_of entries) c.args.line (i + 1) (indexes.items ++ c.in-Some.index ∷ []) =
+    listing_more c.args.self.now c.entries.self c.list_name.new.self (texts_of entries) c.args.line i indexes.items (get_or entries i d).now (omega (arith, c.requires 0))
     (subst (λ n. IsListing c.args.self.now c.entries.self (texts_of entries) c.args.line n indexes.items) (sym c.len-in-entries.ensures) c.entries.invariant.listing)
     (omega (arith, inside, length-map entries (λ (x : Bor (List ℕ)). x.now))) (get_or-map (λ (x : Bor (List ℕ)). x.now) entries i d [] inside) c.in-Some.index some in
     record {

@@ -27,8 +27,8 @@ returns-in_default-2 c =
     let line = c.args.line.now in
     let token = c.in-Some.token in
     let indexes = c.tokens.indexes in
-    let met : HasStamp c.tokens.self c.meet.new.self (take (token.stop - token.start) (drop token.start line)) c.args.stamp = rw c.in_default-2.is at c.in_ok-index.ensures in
-    line_some c.args.self.now c.tokens.self c.meet.new.self line c.tokens.at c.args.stamp (vec_len indexes) indexes.items c.tokens.invariant.listing
+    let met : HasStamp c.tokens.self c.list_name.new.self (take (token.stop - token.start) (drop token.start line)) c.args.stamp = rw c.in_default-2.is at c.in_ok-index.ensures in
+    line_some c.args.self.now c.tokens.self c.list_name.new.self line c.tokens.at c.args.stamp (vec_len indexes) indexes.items c.tokens.invariant.listing
     (λ none. omega (arith, indexes.ok.0, ap length none)) met.extends met.declared met.stamps
 
 pub tokens-preserved : goal.tokens-preserved
@@ -41,11 +41,11 @@ tokens-preserved c =
     let index = c.in-Some-2.index in
     let leading : IsLeading line c.tokens.at token.start token.stop = c.in-Some.ensures.places in
     let is : is_name name ≡ true = sym c.in-Some.ensures.name ∙ from_not_false c.in-Some.token.name c.if-not-token.false in
-    let met : IsStamped c.tokens.self c.meet.new.self name c.args.stamp index = rw c.in-Some-2.is at c.in_ok-index.ensures in
+    let met : IsStamped c.tokens.self c.list_name.new.self name c.args.stamp index = rw c.in-Some-2.is at c.in_ok-index.ensures in
     let some : 0 < c.args.stamp = omega (arith, c.requires.fresh 0) in
-    let more : IsListingLine c.args.self.now c.meet.new.self line token.stop c.args.stamp (i + 1) (indexes.items ++ index ∷ []) =
-    line_more c.args.self.now c.tokens.self c.meet.new.self line c.tokens.at token.stop c.args.stamp i indexes.items name index some c.tokens.invariant.listing leading.leads is met in
-    let moved = line_moved c.args.self.now c.meet.new.self line token.stop c.behind_blank-in-Some.result c.args.stamp (i + 1) (indexes.items ++ index ∷ []) more c.behind_blank-in-Some.ensures.tokens in
+    let more : IsListingLine c.args.self.now c.list_name.new.self line token.stop c.args.stamp (i + 1) (indexes.items ++ index ∷ []) =
+    line_more c.args.self.now c.tokens.self c.list_name.new.self line c.tokens.at token.stop c.args.stamp i indexes.items name index some c.tokens.invariant.listing leading.leads is met in
+    let moved = line_moved c.args.self.now c.list_name.new.self line token.stop c.behind_blank-in-Some.result c.args.stamp (i + 1) (indexes.items ++ index ∷ []) more c.behind_blank-in-Some.ensures.tokens in
     let long : vec_len c.push_reserved.new.self ≡ i + 1 = omega (arith, c.push_reserved.ensures.len) in
     record {
       listing = c.list_known-at-in-Some.ensures.further c.args.self.now (rw (c.push_reserved.ensures.items, long) moved);

@@ -2,7 +2,7 @@ use Rattle.std.proofs.Common.{◌∙◌, sym, refl, subst}
 use Rattle.indexmap.specs.IndexSet.{keys}
 use Rattle.sm_keys.specs.Tables.{Table, table_from, Interns}
 use Rattle.sm_keys.proofs.TableLemmas.{stamped_new, stamp_here}
-use Rattle.sm_keys.proofs.names.Names.meet.Goals as goal
+use Rattle.sm_keys.proofs.names.Names.list_name.Goals as goal
 
 pub returns-then-index-line : goal.returns-then-index-line
 returns-then-index-line c =

@@ -1,6 +1,0 @@
-use Rattle.std.proofs.Common.{◌≡◌, ℕ, ◌<◌, length, get_or}
-use Rattle.sm_market.specs.Lists.{row}
-use Rattle.sm_accept.proofs.accept.free_reviewers.Given as goal
-
-abbrev pub invariant-loop-r : goal.invariant-loop-r
-invariant-loop-r l = (s : ℕ) → s < l.r → get_or l.standings s 0 ≡ length (row l.market.reviewers s)
