@@ -58,8 +58,8 @@ REASONS = {
     'MissingEnd': 'the line `end` is missing',
     'UnknownName': 'this line names an agent that has no line of its own on the other side',
     'AfterEnd': 'there is text behind the line `end`',
-    'WrongKind': 'this command doesn\'t take this kind: only check, list, rest and solve without a side take roommates, and rest takes '
-                 'nothing else',
+    'WrongKind': 'this command doesn\'t take this kind: only check, list, rest, export and solve without a side take roommates, and '
+                 'rest takes nothing else',
     'TooManySeats': 'with this reviewer the lists of all seats together have more than 1,048,576 entries: a reviewer adds as many '
                     'seats as it has places, but no more than acceptable proposers, times its acceptable proposers',
     'BadCursor': 'the vector to go on behind needs a number for each proposer, or of roommates for each person',

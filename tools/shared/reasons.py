@@ -23,7 +23,8 @@ REFUSALS = {
     'UnknownName': ('nobody has this name', 'each agent on a list has a line of its own on the other side, p or r'),
     'AfterEnd': ('something stands behind `end`', 'only `meet`, `join`, `route` and `check` read what stands there'),
     'WrongKind': ('this command doesn\'t take an instance of this kind',
-                  '`check`, `list`, `rest` and `solve` without a side take roommates; all but `rest` take marriages and hospitals'),
+                  '`check`, `list`, `rest`, `export` and `solve` without a side take roommates; all but `rest` take marriages and '
+                  'hospitals'),
     'TooManySeats': (f'from this reviewer on the lists of all seats together have more than {MOST_SEAT_ENTRIES:,} entries',
                      'a hospital adds its places times the proposers with whom it lists each other; tools/trim cuts lists where '
                      'nothing depends on them'),
