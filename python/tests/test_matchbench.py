@@ -1,4 +1,4 @@
-"""`matchbench.py`: against all stable matchings of small instances, and what it makes of names, faults and failures.
+"""`matchbench`: against all stable matchings of small instances, and what it makes of names, faults and failures.
 
 What asks the program is skipped where none is found.
 """

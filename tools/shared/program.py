@@ -11,15 +11,15 @@ STATUSES = {4: 'there was no memory', 5: 'reading failed', 6: 'writing failed', 
 
 
 def path():
-    """The file to call: that of `MATCHBENCH` in the environment, else the script at the top of the repository, else what is on
-    the PATH.
+    """The file to call: that of `MATCHBENCH` in the environment, else the script at the top of the repository or, where the tools are
+    installed below share/, the one in bin/ there, else what is on the PATH.
     """
     own = os.environ.get('MATCHBENCH')
     if own:
         return own
-    script = os.path.join(TOP, 'matchbench')
-    if os.access(script, os.X_OK):
-        return script
+    for script in (os.path.join(TOP, 'matchbench'), os.path.join(TOP, '..', '..', 'bin', 'matchbench')):
+        if os.path.isfile(script) and os.access(script, os.X_OK):
+            return os.path.normpath(script)
     found = shutil.which('matchbench')
     if found is None:
         raise Fault('the program matchbench isn\'t beside the tools and not on the PATH; MATCHBENCH in the environment names its file')

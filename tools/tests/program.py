@@ -1,11 +1,10 @@
-"""The program that tests call where one is there: that of `MATCHBENCH` in the environment, or the one that was built from these
-sources.
+"""The program that tests call where one is there: that of `MATCHBENCH` in the environment, or the one of these sources that was built
+or is released.
 """
 import os
 import subprocess
 
 TOP = os.path.realpath(os.path.join(os.path.dirname(os.path.realpath(__file__)), '..', '..'))
-BUILT = os.path.join(TOP, 'crates', 'matchbench', 'out')
 
 
 def found():
@@ -13,14 +12,8 @@ def found():
     path = os.environ.get('MATCHBENCH')
     if path:
         return path
-    try:
-        with open(os.path.join(BUILT, 'sources'), encoding='utf-8') as file:
-            stamp = file.readline().rstrip('\n')
-    except OSError:
-        return None
-    sums = subprocess.run([os.path.join(TOP, '.ci', 'sources')], stdout=subprocess.PIPE).stdout.decode().rstrip('\n')
-    path = os.path.join(BUILT, 'matchbench')
-    return path if stamp == sums and os.access(path, os.X_OK) else None
+    done = subprocess.run([os.path.join(TOP, '.ci', 'program')], stdout=subprocess.PIPE)
+    return done.stdout.decode().rstrip('\n') or None
 
 
 PATH = found()

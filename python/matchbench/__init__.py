@@ -16,6 +16,8 @@ Ranks and the numbers of seats, rotations and lines are counted from 1.
 from __future__ import annotations
 
 import difflib
+import functools
+import hashlib
 import importlib
 import json
 import operator
@@ -186,24 +188,49 @@ def find_program() -> str:
     """The path of the program.
 
     It is the one that the environment variable MATCHBENCH names, where that is set; else the one built in the repository in
-    which this file is; else `matchbench` on PATH. Whether it was built from the sources as they are now isn't looked at.
-    Raises ProgramMissing.
+    which this file is; else the released one there, or the one that was installed with this module; else `matchbench` on PATH.
+    Whether it was built from the sources as they are now isn't looked at. Raises ProgramMissing.
     """
     named = os.environ.get('MATCHBENCH')
     if named:
         if _can_run(named):
             return os.path.abspath(named)
         raise ProgramMissing(f'MATCHBENCH is {named!r}, which is no program')
-    top = os.path.dirname(os.path.dirname(os.path.realpath(__file__)))
+    here, name = os.path.split(os.path.realpath(__file__))
+    if name.startswith('__init__.'):
+        here = os.path.dirname(here)
+    top = os.path.dirname(here)
     built = os.path.join(top, 'crates', 'matchbench', 'out', 'matchbench')
     if _can_run(built):
         return built
+    installed = [os.path.join(it, 'libexec', 'matchbench') for it in (os.path.join(here, '..', '..', '..'), here)]
+    for folder in [os.path.join(top, 'release'), *installed]:
+        if os.path.isfile(os.path.join(folder, 'SHA256SUMS')):
+            return _released(os.path.normpath(folder))
     found = shutil.which('matchbench')
     if found is not None:
         return found
     raise ProgramMissing('the program isn\'t built. At the top of the repository `./matchbench solve < examples/two_by_two.txt` '
                          'proves and builds it, which takes the better part of an hour; a file that was built elsewhere is '
                          'found by the environment variable MATCHBENCH')
+
+
+@functools.lru_cache(maxsize=None)
+def _released(folder: str) -> str:
+    """The released program in a folder, if its checksum is that of SHA256SUMS there and it runs here."""
+    path = os.path.join(folder, 'matchbench')
+    try:
+        with open(os.path.join(folder, 'SHA256SUMS'), encoding='ascii') as sums, open(path, 'rb') as program:
+            if f'{hashlib.sha256(program.read()).hexdigest()}  matchbench' not in sums.read().split('\n'):
+                raise ProgramMissing(f'{path} is damaged: it hasn\'t the checksum of SHA256SUMS beside it, so it isn\'t run')
+        # Without words the program ends at once, and says so.
+        done = subprocess.run([path], stdin=subprocess.DEVNULL, stdout=subprocess.PIPE, stderr=subprocess.PIPE)
+    except OSError as fault:
+        raise ProgramMissing(f'{path} can\'t be started: {fault.strerror}') from fault
+    if done.stdout != b'usage 1\n':
+        raise ProgramMissing(f'{path} doesn\'t run here: it wants Linux on x86-64-v2 with the GNU C library 2.34 or later'
+                             + f' ({done.stderr.decode(errors="replace").strip()})' * bool(done.stderr))
+    return path
 
 
 class Seat(NamedTuple):
