@@ -25,7 +25,7 @@ use Rattle.sm_answer_given.specs.Chosen.{pair_lines, chosen_lines, IsChosenAnswe
 use Rattle.sm_answer_given.specs.declared.given.Given.{Given}
 use Rattle.sm_answer.specs.declared.matching_lines.PairWord.{PairWord}
 use Rattle.sm_answer.specs.declared.matching_lines.PairWord.TheVariants as word
-use Rattle.sm_answer_given.proofs.ReadingLemmas.{end_line}
+use Rattle.sm_answer.proofs.LineLemmas.{end_sound}
 
 -- a pair of an assignment is a line of the instance
 pub pair_sound : (by : PairWord) (w : Written) (places : List (Option ℕ)) → IsInstance w → IsAssignment w places → (p : ℕ) → All (IsLineOf (Two w)) (line_or_none (matching_line by w places p))
@@ -51,7 +51,7 @@ lines_sound choice w m n input two h hm hn =
     (All-cons P (LineData.Answer (head_for choice)) (pair_lines word.Left w m ++ (pair_lines word.Right w n ++ (pairs ++ LineData.End ∷ []))) (head_line choice)
     (All-append P (pair_lines word.Left w m) (pair_lines word.Right w n ++ (pairs ++ LineData.End ∷ [])) (all word.Left m hm)
     (All-append P (pair_lines word.Right w n) (pairs ++ LineData.End ∷ []) (all word.Right n hn)
-    (All-append P pairs (LineData.End ∷ []) (all word.Pair (chosen_places choice w m n) (chosen_assigned choice w m n hm hn)) (one_all P LineData.End (end_line (Two w)))))))
+    (All-append P pairs (LineData.End ∷ []) (all word.Pair (chosen_places choice w m n) (chosen_assigned choice w m n hm hn)) (one_all P LineData.End (end_sound (Two w)))))))
   where
     head_line : (choice : Choice) → IsLineOf (Two w) (LineData.Answer (head_for choice))
     head_line Better = record { printable = tt; seats = λ k d l. absurd (omega (arith, l)); numbers = tt; head = tt }

@@ -17,6 +17,7 @@ use Rattle.sm_answer_given.specs.Taking.{end_so_far, lines_so_far, FitsGroup, Ar
 use Rattle.sm_answer_given.specs.declared.pairs.Group.{Group}
 use Rattle.sm_answer_given.specs.declared.pairs.Group.TheVariants.{Left, Right, Ended}
 use Rattle.sm_answer_given.specs.declared.pairs.GivenPairs.{GivenPairs}
+use Rattle.sm_answer.proofs.LineLemmas.{end_sound}
 
 -- Behind lines that stand in front of those of two matchings stand the lines that are left of these.
 pub record IsLeft (l r : List (ℕ × ℕ)) (more : List LineData) (rs : List (ℕ × ℕ)) : Type 0 where
@@ -145,10 +146,6 @@ All-right P xs ys all = subst (All P) (drop-append_seam xs ys) (All-drop P (leng
 take_front : (xs ys : List (List ℕ)) (n : ℕ) → n ≡ length xs → take n (xs ++ ys) ≡ xs
 take_front xs ys n e = ap (λ k. take k (xs ++ ys)) e ∙ take-append_seam xs ys
 
--- lines of pairs that are there
-pub end_line : (input : Input) → IsLineOf input LineData.End
-end_line input = record { printable = tt; seats = λ k d l. absurd (omega (arith, l)); numbers = tt; head = tt }
-
 given_sound : (input : Input) (l r : List (ℕ × ℕ)) → ArePairs input l → ArePairs input r → All (IsLineOf input) (given_lines l r)
 given_sound input l r hl hr =
     let P = IsLineOf input in
@@ -156,7 +153,7 @@ given_sound input l r hl hr =
     (All-append P (map left_pair l) (map right_pair r)
     (All-map P left_pair l (λ k d lt. record { printable = hl k d lt; seats = λ k d l. absurd (omega (arith, l)); numbers = tt; head = tt }))
     (All-map P right_pair r (λ k d lt. record { printable = hr k d lt; seats = λ k d l. absurd (omega (arith, l)); numbers = tt; head = tt })))
-    (one_all P LineData.End (end_line input))
+    (one_all P LineData.End (end_sound input))
 
 -- and the pairs of lines that are those of the instance
 pairs_there : (input : Input) (pairs : GivenPairs) → All (IsLineOf input) (lines_so_far pairs) → ArePairs input pairs.left.items × ArePairs input pairs.right.items

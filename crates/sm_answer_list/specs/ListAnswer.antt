@@ -7,7 +7,7 @@ use Rattle.sm_seats.specs.Vectors.{IsAllowedRankVector}
 -- the lines of vectors, and the length of a cursor, passed on
 pub use Rattle.sm_answer_vectors.specs.VectorAnswer.{last_line, vector_lines, IsCursor, IsVectorAnswer}
 
--- the lines are the rank vectors of a listing of the allowed stable matchings, in the order of the file's proposers, and its
+-- the lines are the rank vectors of a listing of the allowed stable matchings, in the order of the instance, and its
 -- end (after Gusfield and Irving 1989, section 3.3)
 pub record IsListAnswer (after : Option (List ℕ)) (limit : ℕ) (w : Written) (answer : List LineData) : Type 0 where
   pub cursor : IsCursor (length w.proposers) after

@@ -15,9 +15,9 @@ use Rattle.sm_report.specs.Heads.{HeadData}
 use Rattle.sm_report.specs.Lines.{LineData}
 use Rattle.sm_report.specs.Sound.{IsLineOf}
 use Rattle.sm_theory.specs.Rooms.{mate_of, IsRoomMatching, IsRoomStable}
-use Rattle.sm_theory.proofs.Room.Bridge.{listed_in_range}
 use Rattle.sm_answer_roommates.specs.Parties.{AreParties}
 use Rattle.sm_answer_roommates.specs.RoomAnswer.{answer_lines, couple_with, couple_line, couple_lines, party_line, party_lines, AreExcluding}
+use Rattle.sm_lists.proofs.RowLemmas.{row_in_range}
 
 -- Lines of the instance.
 
@@ -56,8 +56,8 @@ couple_sound persons mates m x = by_mate (mate_of mates x) refl
     by_mate None e = none_left (IsLineOf (Room persons))
     by_mate (Some y) e =
         let both = m.acceptable x y e in
-        let a = listed_in_range (lists_of persons) x _ both.listed in
-        let b = listed_in_range (lists_of persons) y _ both.returned in
+        let a = row_in_range (lists_of persons) x _ both.listed in
+        let b = row_in_range (lists_of persons) y _ both.returned in
         by_test y (nat_lt x y) (omega (arith, a, many persons)) (omega (arith, b, many persons))
 
 party_sound : (persons : List AgentData) (next : List ℕ) (parties : List (List ℕ)) → AreParties next parties → length next ≡ length persons → (k : ℕ) → k < length parties → All (IsLineOf (Room persons)) (line_or_none (party_line parties k))

@@ -20,13 +20,6 @@ use Rattle.sm_answer_roommates.specs.RestAnswer.{AreLeftOut, IsRestOf, out_line,
 use Rattle.sm_answer_roommates.specs.Resting.{AreLeftOutBelow}
 use Rattle.sm_answer_roommates.proofs.LineLemmas.{couple_sound, end_sound, many}
 
--- nobody is noted among none
-pub none_noted : (rows : List (List ℕ)) (next : List ℕ) → AreLeftOutBelow rows next 0 []
-none_noted rows next = record {
-  below = λ i on. absurd (omega arith);
-  rising = λ i j less on. absurd (omega arith);
-  each = λ i on. absurd (omega arith);
-  all = λ x lt l. absurd (omega arith);
 }
 
 -- one more person that isn't left out
@@ -52,12 +45,6 @@ noted_more {rows} {next} {x} {out} w is = record {
   ];
 }
 
--- all persons are noted
-pub all_noted : {rows : List (List ℕ)} {next : List ℕ} {x : ℕ} {out : List ℕ} → AreLeftOutBelow rows next x out → length rows ≤ x → AreLeftOut rows next out
-all_noted w whole = record {
-  rising = w.rising;
-  each = w.each;
-  all = λ y l. let inside = l.odd.in_range in w.all y (omega (arith, inside, whole)) l;
 }
 
 -- Lines of the instance.
@@ -111,10 +98,6 @@ out_fits {persons} {out} {mates} h found = fits (length out) refl
         let deep = place_below out found.left_out.rising k (omega (arith, some)) in
         let inside = (found.left_out.each k (omega (arith, some))).odd.in_range in
         omega (arith, deep, inside, some, many persons, h.limits.proposers)
-
--- and so are their mates
-pub rest_fits : {persons : List AgentData} {out : List ℕ} {mates : List (Option ℕ)} → ArePersons persons → IsRestOf (lists_of persons) out mates → length mates < 2 ^ 32
-rest_fits {persons} h found = omega (arith, h.limits.proposers, found.rest.matching.one_each, many persons)
 
 -- so what is given are lines of the instance
 pub given_rest_sound : {input : Input} {persons : List AgentData} {out : List ℕ} {mates : List (Option ℕ)} → input ≡ Room persons → IsRestOf (lists_of persons) out mates → All (IsLineOf input) (rest_given out mates)

@@ -45,6 +45,7 @@ use Rattle.sm_lists.proofs.PlaceLemmas.{get_or-place_on}
 use Rattle.sm_answer.proofs.LineLemmas.{end_sound}
 use Rattle.sm_answer_rotations.proofs.ReduceLemmas.{no_line, seat_is, seat_sound}
 use Rattle.sm_answer_rotations.proofs.ShownLemmas.{pairs_at_shown, needs_shown, correspondence}
+use Rattle.sm_rotations.proofs.NeedsLemmas.{as_many}
 
 -- The whole answer.
 
@@ -232,9 +233,6 @@ none_given s rotations needs halfway k n over =
 
 -- Counting.
 
-pub rotations_long : (values : List Rotation) → length (rotations_of values) ≡ length values
-rotations_long values = length-map values (λ (r : Rotation). r.pairs.items)
-
 rows_long : (vectors : List (Vec ℕ Global)) → length (rows_of vectors) ≡ length vectors
 rows_long vectors = length-map vectors (λ (v : Vec ℕ Global). v.items)
 
@@ -275,7 +273,7 @@ shown_of_found l found values vectors same same' r =
     let rotations = rotations_of found.chain.rotations.items in
     let x : AreShown l found.chain.first.places rotations (rows_of found.needs.items) = record {
       printed = r.printed;
-      few = omega (arith, r.few, rotations_long found.chain.rotations.items);
+      few = omega (arith, r.few, as_many found.chain.rotations.items);
       one_each = r.needs.one_each;
       of = r.needs.each;
     } in
@@ -284,12 +282,8 @@ shown_of_found l found values vectors same same' r =
 
 -- the values are as many
 pub values_few : (l : Lists) (first : Places) (values : List Rotation) (needs : List (List ℕ)) → AreShown l first (rotations_of values) needs → length values < 2 ^ 24
-values_few l first values needs h = omega (arith, h.few, rotations_long values)
+values_few l first values needs h = omega (arith, h.few, as_many values)
 
 -- and as many as the vectors of needs
 pub values_each : (l : Lists) (first : Places) (values : List Rotation) (vectors : List (Vec ℕ Global)) → AreShown l first (rotations_of values) (rows_of vectors) → length vectors ≡ length values
-values_each l first values vectors h = sym (rows_long vectors) ∙ h.one_each ∙ rotations_long values
-
--- a rotation's pairs are read from its value
-pub pairs_read : (values : List Rotation) (k : ℕ) (r : Rotation) → k < length values → r ≡ get_or values k r → r.pairs.items ≡ rotation_at (rotations_of values) k
-pairs_read values k r h e = ap (λ (r : Rotation). r.pairs.items) e ∙ sym (get_or-map (λ (r : Rotation). r.pairs.items) values k r [] h)
+values_each l first values vectors h = sym (rows_long vectors) ∙ h.one_each ∙ as_many values

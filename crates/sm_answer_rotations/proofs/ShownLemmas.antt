@@ -26,6 +26,7 @@ use Rattle.sm_answer_rotations.specs.RotationLines.{ShownRotations, first_at, pa
 use Rattle.sm_answer_rotations.specs.Reduction.{seat_of}
 use Rattle.sm_answer_rotations.specs.RotationAnswer.{HasNumberedRotation, IsClosedIn, pairs_of, least_liked, matching_shown, IsCorrespondence}
 use Rattle.sm_answer_rotations.proofs.SeatingLemmas.{place_of-list, place_of-reviewer_of}
+use Rattle.sm_theory.proofs.Routes.Sets.{member_within}
 
 -- What is shown of a chain.
 
@@ -99,13 +100,6 @@ number_out needed n w =
 member_of : (set : List Bool) (k n : ℕ) → n ≡ suc k → HasNumberedRotation set n → IsMember set k
 member_of set k n e h = subst (HasNumberedRotation set) e h
 
--- a member is one of as many as the set has items
-member_below : (set : List Bool) (k : ℕ) → IsMember set k → k < length set
-member_below set k member = elim (cases_lt k (length set)) [
-  | inl here ↦ here
-  | inr past ↦ absurd (true≢false (sym member ∙ get_or_past set k false past))
-]
-
 -- Places on the written lists and on those of the seats.
 
 -- the reviewer of the seat at the place a of p's list of seats stands at the place b of its written list
@@ -174,7 +168,7 @@ module _ {w : Written} {s : Seating} (h : IsSeating w s) {first : Places} {rotat
   closed_as_shown set c = record {
     one_each = c.one_each ∙ sym (length-map rotations (seated_rotation s));
     closed = λ k n member there.
-        let k_in : k < length rotations = omega (arith, member_below set k member, c.one_each) in
+        let k_in : k < length rotations = omega (arith, member_within set k member, c.one_each) in
         let d = number_out (row needs k) n (subst (λ (x : List ℕ). Contains x n) (needs_shown needs k) there) in
         let i = slice_index (row needs k) d.at in
         let has : HasNumberedRotation set (suc i) = c.closed i k ((needed k k_in).sound d.at d.on) k_in member ((needed k k_in).each d.at d.on) in

@@ -9,7 +9,7 @@ use Rattle.sm_answer.proofs.AnswerLemmas.{lines_all}
 use Rattle.sm_answer.proofs.LineLemmas.{pair_sound, end_sound}
 use Rattle.sm_agents.specs.Written.{Written}
 use Rattle.sm_agents.specs.Sound.{IsInstance}
-use Rattle.sm_instance.specs.Matching.{IsAssignment, IsMatching}
+use Rattle.sm_instance.specs.Matching.{IsMatching}
 use Rattle.sm_instance.specs.Stable.{IsBestOf}
 use Rattle.sm_instance.specs.declared.inputs.Input.{Input}
 use Rattle.sm_instance.specs.declared.inputs.Input.TheVariants.{Two}
@@ -27,10 +27,6 @@ use Rattle.sm_answer_solve.specs.SolutionGiven.{solution_given}
 best_matching : (side : Side) (w : Written) (places : List (Option ℕ)) → IsBestOf side w places → IsMatching w places
 best_matching Proposers w places best = best.stable.matching
 best_matching Reviewers w places best = best.stable.matching
-
--- the best matching of a side is an assignment
-pub best_assigned : (side : Side) (w : Written) (places : List (Option ℕ)) → IsBestOf side w places → IsAssignment w places
-best_assigned side w places best = (best_matching side w places best).assigned
 
 -- `solve` names a side where the instance has two
 names_side : (kind : Kind) (side : Side) → kind ≢ Roommates → NamesSide kind (Some side)

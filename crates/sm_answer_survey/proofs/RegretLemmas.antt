@@ -8,7 +8,7 @@ use Rattle.sm_agents.specs.Written.{Written}
 use Rattle.sm_instance.specs.Matching.{held, IsMatching}
 use Rattle.sm_instance.specs.Ranks.{rank_vector_of, worse_rank, regret_of}
 use Rattle.sm_answer_list.proofs.RankLemmas.{rank_at}
-use Rattle.sm_answer_survey.specs.Regrets.{piece, IsWorseRank, AreWorseRanks, AreSameIn, AreKeptBut, IsGreatestIn, AreGreatest}
+use Rattle.sm_answer_survey.specs.Regrets.{piece, IsWorseRank, AreWorseRanks, AreSameIn, AreGreatest}
 
 -- a rank is put in place, with the greater one of the pair
 pub one_kept : {w : Written} {ranks worse : List ℕ} (p rank n : ℕ) → AreWorseRanks w ranks worse → p < length w.proposers → IsWorseRank w p rank n → AreWorseRanks w (set ranks p rank) (set worse p n)
@@ -92,14 +92,6 @@ greatest_of_pieces numbers greatest h = omega (arith, at_least, at_most)
       ]
     ]
 
--- a piece whose numbers are as they were has the greatest that it had
-pub greatest_kept : (from begin : ℕ) (before after : List ℕ) (n : ℕ) → AreKeptBut from before after → (begin + piece ≤ from) ⊎ (from + piece ≤ begin) → IsGreatestIn begin before n → IsGreatestIn begin after n
-greatest_kept from begin before after n kept apart h = record {
-  bound = λ p l m. let same = as_was p l m in let b = h.bound p l m in omega (arith, same, b);
-  reached = elim h.reached [
-    | inl e ↦ inl e
-    | inr r ↦ inr (record { at = r.at; begins = r.begins; ends = r.ends; is = as_was r.at r.begins r.ends ∙ r.is })
-  ];
 }
   where
     as_was : (p : ℕ) → begin ≤ p → p < begin + piece → slice_index after p ≡ slice_index before p

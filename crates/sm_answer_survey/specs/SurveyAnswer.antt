@@ -25,7 +25,7 @@ pub record IsFeedOf (w : Written) (feed : Feed) : Type 0 where
 abbrev pub vectors_of : List Feed → List (List ℕ)
 vectors_of feeds = map (λ feed. feed.vector) feeds
 
--- the allowed stable matchings that are listed from the first one on, in the order of the file's proposers and up to a limit,
+-- the allowed stable matchings that are listed from the first one on, in the order of the instance and up to a limit,
 -- each with its regret; and more is said to follow exactly where more follow (after Gusfield and Irving 1989, section 3.3)
 pub record AreSurveyed (w : Written) (limit : ℕ) (feeds : List Feed) (more : Bool) : Type 0 where
   pub listing : IsListing (IsBefore (order_of w)) (IsAllowedRankVector w) None limit (vectors_of feeds) more

@@ -25,13 +25,7 @@ use Rattle.sm_board.specs.BoardOf.{IsGround, IsAllowedStay, IsLeastWithin, Board
 use Rattle.sm_board.proofs.MemberLemmas.{members_few}
 use Rattle.sm_board.proofs.BoardLemmas.{members_are_first}
 use Rattle.sm_board.proofs.BoardBridge.{contained, board, place, all_moves, leave_is, leaves_long, many, levels_long, stay_level_is, stands, movers, place_up, found, is_board}
-
--- a member is one of the set
-pub member_below : (C : List Bool) (j : ℕ) → IsMember C j → j < length C
-member_below C j m = elim (lt_or_le j (length C)) [
-  | inl less ↦ less
-  | inr past ↦ absurd (false≢true (sym (get_or_past C j false past) ∙ m))
-]
+use Rattle.sm_theory.proofs.Routes.Sets.{member_within}
 
 module _ {l : Lists} {levels : List (List ℕ)} {first : Places} {rotations : List (List (ℕ × ℕ))} {needs : List (List ℕ)} {moves : List (List (ℕ × ℕ))} (ground : IsGround l levels first rotations needs moves) where
   -- a closed set of the chain is one of the board
@@ -40,7 +34,7 @@ module _ {l : Lists} {levels : List (List ℕ)} {first : Places} {rotations : Li
     where
       closed : (i j : ℕ) → IsMember C j → Contains (row needs j) i → IsMember C i
       closed i j m w =
-          let g : j < length rotations = omega (arith, member_below C j m, c.one_each) in
+          let g : j < length rotations = omega (arith, member_within C j m, c.one_each) in
           let e : slice_index (row needs j) w.0 ≡ i = contained (row needs j) i w in
           let are = ground.needs_are j g in
           subst (IsMember C) e (c.closed (slice_index (row needs j) w.0) j (are.sound w.0 w.1) g m (are.each w.0 w.1))

@@ -150,7 +150,7 @@ impl Held {
         }
     }
 
-    /// The rotation leaves that entered last.
+    /// Removes the last rotation added.
     fn leave(&mut self, board: &Board)
         requires board { IsBoard board.now }
         requires held { IsHeld board.now self.old }

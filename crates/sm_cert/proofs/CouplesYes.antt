@@ -23,9 +23,10 @@ use Rattle.sm_check_clauses.specs.Rooming.{persons_of, both_ways, mates_in, IsFr
 use Rattle.sm_cert.specs.Yes.{AreApart, CouplesYes}
 use Rattle.sm_check_roommates.proofs.PersonLemmas.{of_among}
 use Rattle.sm_check_clauses.proofs.JudgingLemmas.{passes_at}
-use Rattle.sm_check_roommates.proofs.CoupleLemmas.{partner_in-append, partner_there, none_where}
+use Rattle.sm_check_roommates.proofs.CoupleLemmas.{partner_in-append, partner_there}
 use Rattle.sm_cert.proofs.YesPairs.{held_there, only_one, no_partner, given_there, pair_there, apart_more}
 use Rattle.sm_cert.proofs.YesLines.{right_couples, at_closing, said_above, grown}
+use Rattle.sm_market.proofs.SeatLemmas.{none_of}
 
 -- Couples of which each was free behind those before it.
 
@@ -49,7 +50,7 @@ no_couple rows = record {
 
 -- who stands in no pair has nobody
 nobody : (pairs : List (ℕ × ℕ)) (z : ℕ) → ¬ Contains (persons_of pairs) z → partner_in (both_ways pairs) z ≡ None
-nobody pairs z none = none_where (partner_in (both_ways pairs) z) (go (is_some (partner_in (both_ways pairs) z)) refl)
+nobody pairs z none = none_of (partner_in (both_ways pairs) z) (go (is_some (partner_in (both_ways pairs) z)) refl)
   where
     go : (t : Bool) → is_some (partner_in (both_ways pairs) z) ≡ t → is_some (partner_in (both_ways pairs) z) ≡ false
     go false e = e

@@ -22,12 +22,7 @@ use Rattle.sm_check_net.specs.Second.{AreOnEdges, inner_step, inner_steps}
 use Rattle.sm_check_net.proofs.PairListLemmas.{has_pair-pair_if, in_pair_if, in_flat, has_pair-flat_map}
 use Rattle.sm_check_net.proofs.ReachLemmas.{step_at}
 use Rattle.sm_check_net.proofs.ResidualLemmas.{HasPart, has_part, step_of, step_listed}
-
--- tests that pass together are the same
-same_test : (a b : Bool) → (a ≡ true → b ≡ true) → (b ≡ true → a ≡ true) → a ≡ b
-same_test true b f g = sym (f refl)
-same_test false true f g = g refl
-same_test false false f g = refl
+use Rattle.sm_lists.proofs.ResultLemmas.{same_bool}
 
 -- rotations without needs need none
 no_row : (n k : ℕ) → row (replicate n []) k ≡ []
@@ -179,7 +174,7 @@ module _ (parts : NetParts) (lines : List FlowLine) (on : AreOnNodes (length par
         (or_right (leads_to_need needs i j) (has_pair bonds i j) (same i j ∙ is_inner i j a b s)))
 
     tests_are : (i j : ℕ) → test i j ≡ other i j
-    tests_are i j = same_test (test i j) (other i j) (there i j) (back i j)
+    tests_are i j = same_bool (test i j) (other i j) (there i j) (back i j)
 
     -- the net of these parts, with the size of the other
     abbrev middle : Net

@@ -21,6 +21,7 @@ use Rattle.sm_check_roommates.specs.CouplesKept.{AreCouplesHeld, AreCouplesKept,
 use Rattle.sm_check_clauses.specs.Walking.{FindsOrKeeps}
 use Rattle.sm_check_roommates.proofs.PersonLemmas.{among_of, of_among}
 use Rattle.sm_check_roommates.specs.PartiesKept.{is_among}
+use Rattle.sm_market.proofs.SeatLemmas.{none_of}
 
 -- whom pairs give somebody that has nobody in the first of them
 pub partner_in-append : (xs ys : List (ℕ × ℕ)) (z : ℕ) → partner_in (xs ++ ys) z ≡ option_or (partner_in xs z) (partner_in ys z)
@@ -43,11 +44,6 @@ partner_there (x ∷ pairs) z = go (eqb x.0 z) (eqb x.1 z) (partner_there pairs 
     go false true e = refl
     go false false e = e
 
--- where nothing is there it is none
-pub none_where : (o : Option ℕ) → is_some o ≡ false → o ≡ None
-none_where None e = refl
-none_where (Some x) e = absurd (false≢true (sym e))
-
 module _ {rows : List (List ℕ)} {pairs : List (ℕ × ℕ)} {mates : List (Option ℕ)} (k : AreCouplesHeld rows pairs mates) where
   -- who has a mate stands in a pair, and who has none stands in none
   pub stands : (z : ℕ) → z < length rows → true ≡ is_some (mate_of mates z) → Contains (persons_of pairs) z
@@ -62,10 +58,10 @@ module _ {rows : List (List ℕ)} {pairs : List (ℕ × ℕ)} {mates : List (Opt
     new = set (set mates x (Some y)) y (Some x)
 
     x_free : mate_of mates x ≡ None
-    x_free = none_where (mate_of mates x) (sym x_none)
+    x_free = none_of (mate_of mates x) (sym x_none)
 
     y_free : mate_of mates y ≡ None
-    y_free = none_where (mate_of mates y) (sym y_none)
+    y_free = none_of (mate_of mates y) (sym y_none)
 
     at_y : mate_of new y ≡ Some x
     at_y = get_or-set_same (set mates x (Some y)) y (Some x) None (let long = length-set mates x (Some y) in let same = k.matching.one_each in omega arith)

@@ -20,7 +20,7 @@ impl Input {
     ghost use Rattle.sm_agents.specs.Written.{agent_at, names_of};
     ghost use Rattle.sm_instance.specs.Inputs.{IsInput, kind_of, left_of, right_of};
 
-    /// The kind.
+    /// The kind. Takes constant time.
     #[inline(always)]
     pub fn kind(&self) -> Kind
         ensures kind { result ≡ kind_of self.now }
@@ -62,7 +62,7 @@ impl Input {
         }
     }
 
-    /// The name of a proposer, in roommates of a person.
+    /// The name of a proposer, in roommates of a person. Takes constant time.
     pub fn left_name(&self, at: u32) -> &[u8]
         requires { at < length (left_of self.now) }
         ensures { result.now ≡ (agent_at (left_of self.now) at).name }
@@ -73,7 +73,7 @@ impl Input {
         }
     }
 
-    /// The name of a reviewer, in roommates of a person.
+    /// The name of a reviewer, in roommates of a person. Takes constant time.
     pub fn right_name(&self, at: u32) -> &[u8]
         requires { at < length (right_of self.now) }
         ensures { result.now ≡ (agent_at (right_of self.now) at).name }

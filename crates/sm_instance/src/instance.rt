@@ -137,7 +137,7 @@ impl Instance {
         Ok(of_parts(parts, weighed, None, None, spaced))
     }
 
-    /// The kind, which is a marriage or hospitals.
+    /// The kind, which is a marriage or hospitals. Takes constant time.
     #[inline(always)]
     pub fn kind(&self) -> Kind
         ensures kind { result ≡ self.now.kind }
@@ -146,7 +146,7 @@ impl Instance {
         self.kind
     }
 
-    /// The proposers, by number.
+    /// The proposers, by number. Takes constant time.
     pub fn proposers(&self) -> &[Agent]
         ensures agents { agents_of result.now ≡ self.now.proposers }
         ensures instance { IsInstance self.now }
@@ -154,7 +154,7 @@ impl Instance {
         &self.proposers
     }
 
-    /// The reviewers, by number.
+    /// The reviewers, by number. Takes constant time.
     pub fn reviewers(&self) -> &[Agent]
         ensures agents { agents_of result.now ≡ self.now.reviewers }
         ensures instance { IsInstance self.now }
@@ -180,14 +180,14 @@ impl Instance {
         put_name_at(into, &self.reviewers, &self.spaced.reviewers, r)
     }
 
-    /// The weights in the order in which they were given, each with its proposer and its reviewer.
+    /// The weights in the order in which they were given, each with its proposer and its reviewer. Takes constant time.
     pub fn weights(&self) -> &[(u32, u32, i64)]
         ensures { result.now ≡ self.now.weights }
     {
         &self.weights
     }
 
-    /// The forced pairs, in the order in which they were given.
+    /// The forced pairs, in the order in which they were given. Takes constant time.
     pub fn forced(&self) -> &[(u32, u32)]
         ensures pairs { result.now ≡ self.now.forced }
         ensures few { length self.now.weights + length self.now.forced
@@ -197,7 +197,7 @@ impl Instance {
         &self.forced
     }
 
-    /// The forbidden pairs, in the order in which they were given.
+    /// The forbidden pairs, in the order in which they were given. Takes constant time.
     pub fn forbidden(&self) -> &[(u32, u32)]
         ensures pairs { result.now ≡ self.now.forbidden }
         ensures few { length self.now.weights + length self.now.forced
@@ -208,7 +208,7 @@ impl Instance {
     }
 
     /// The second weights, one beside each weight, in the order of [`Instance::weights`]. A second weight that wasn't given
-    /// is 0.
+    /// is 0. Takes constant time.
     pub fn seconds(&self) -> &[i64]
         ensures seconds { result.now ≡ self.now.seconds }
         ensures each { length self.now.seconds ≡ length self.now.weights }
@@ -216,7 +216,7 @@ impl Instance {
         &self.seconds
     }
 
-    /// The order of the proposers in which rank vectors are compared: each proposer once.
+    /// The order of the proposers in which rank vectors are compared: each proposer once. Takes constant time.
     pub fn order(&self) -> &[u32]
         ensures order { result.now ≡ self.now.order }
         ensures instance { IsInstance self.now }
@@ -278,7 +278,7 @@ impl Instance {
         has_nonzero(&self.seconds)
     }
 
-    /// How many proposers there are.
+    /// How many proposers there are. Takes constant time.
     pub fn proposer_count(&self) -> u32
         ensures count { result ≡ length self.now.proposers }
         ensures instance { IsInstance self.now }
@@ -286,7 +286,7 @@ impl Instance {
         self.proposers.len() as u32
     }
 
-    /// How many reviewers there are.
+    /// How many reviewers there are. Takes constant time.
     pub fn reviewer_count(&self) -> u32
         ensures count { result ≡ length self.now.reviewers }
         ensures instance { IsInstance self.now }
@@ -294,7 +294,7 @@ impl Instance {
         self.reviewers.len() as u32
     }
 
-    /// How many reviewers a proposer lists.
+    /// How many reviewers a proposer lists. Takes constant time.
     pub fn proposer_len(&self, p: u32) -> u32
         requires { p < length self.now.proposers }
         ensures length { result ≡ length (row self.now.proposers p) }
@@ -304,7 +304,7 @@ impl Instance {
         list_at(&self.proposers, p).len() as u32
     }
 
-    /// How many proposers a reviewer lists.
+    /// How many proposers a reviewer lists. Takes constant time.
     pub fn reviewer_len(&self, r: u32) -> u32
         requires { r < length self.now.reviewers }
         ensures length { result ≡ length (row self.now.reviewers r) }
@@ -313,7 +313,7 @@ impl Instance {
         list_at(&self.reviewers, r).len() as u32
     }
 
-    /// The reviewer at a place of a proposer's list.
+    /// The reviewer at a place of a proposer's list. Takes constant time.
     pub fn reviewer_at(&self, p: u32, place: u32) -> u32
         requires in_range { p < length self.now.proposers }
         requires on_list { place < length (row self.now.proposers p) }
@@ -333,7 +333,7 @@ impl Instance {
         list_at(&self.reviewers, r)[place as usize]
     }
 
-    /// Whom a proposer lists, best first.
+    /// Whom a proposer lists, best first. Takes constant time.
     pub fn proposer_list(&self, p: u32) -> &[u32]
         requires { p < length self.now.proposers }
         ensures { result.now ≡ row self.now.proposers p }
@@ -341,7 +341,7 @@ impl Instance {
         list_at(&self.proposers, p)
     }
 
-    /// Whom a reviewer lists, best first.
+    /// Whom a reviewer lists, best first. Takes constant time.
     pub fn reviewer_list(&self, r: u32) -> &[u32]
         requires { r < length self.now.reviewers }
         ensures { result.now ≡ row self.now.reviewers r }
@@ -349,7 +349,7 @@ impl Instance {
         list_at(&self.reviewers, r)
     }
 
-    /// How many proposers a reviewer may have.
+    /// How many proposers a reviewer may have. Takes constant time.
     pub fn capacity(&self, r: u32) -> u32
         requires { r < length self.now.reviewers }
         ensures capacity { result ≡ capacity_of self.now.reviewers r }

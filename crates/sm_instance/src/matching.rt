@@ -157,6 +157,7 @@ impl Instance {
     }
 
     /// How a proposer stands: the place that it holds, or the length of its list where it is unmatched. Lower is better.
+    /// Takes constant time.
     pub fn standing(&self, a: &Assignment, p: u32) -> u32
         requires assignment { IsAssignment self.now a.now.places.items }
         requires in_range { p < length self.now.proposers }

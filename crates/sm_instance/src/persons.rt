@@ -96,7 +96,7 @@ impl Persons {
         Kind::Roommates
     }
 
-    /// The persons, by number.
+    /// The persons, by number. Takes constant time.
     pub fn persons(&self) -> &[Agent]
         ensures agents { agents_of result.now ≡ self.now }
         ensures sound { ArePersons self.now }

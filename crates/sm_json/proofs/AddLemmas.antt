@@ -11,10 +11,6 @@ use Rattle.serde_json.specs.View.{items_of}
 use Rattle.sm_json.specs.Values.{every, list_of}
 use Rattle.sm_json.specs.Adding.{Adds, joined, texts}
 
--- a text that is there
-pub adds_piece : (a b t : List ℕ) → b ≡ a ++ t → Adds a b (Some t) (Ok tt)
-adds_piece a b t h = ap Some (sym h)
-
 -- one text was added
 pub step_joined : (a b : List ℕ) (x y : Option (List ℕ)) → Adds a b x (Ok tt) → option_map (λ t. a ++ t) (joined x y) ≡ option_map (λ t. b ++ t) y
 step_joined a b None y first = absurd (none-some b first)
@@ -37,11 +33,6 @@ pub adds_same : (a b : List ℕ) (x y : Option (List ℕ)) (r : Result (Unit {0}
 adds_same a b x y (Ok done) e h = ap (option_map (λ t. a ++ t)) (sym e) ∙ h
 adds_same a b x y (Err BadJson) e h = sym e ∙ h
 adds_same a b x y (Err OutOfMemory) e h = tt
-
--- where one stops, so does what begins with it
-pub stops_first : (a b c : List ℕ) (x y : Option (List ℕ)) (e : JsonFault) → Adds a b x (Err e) → Adds a c (joined x y) (Err e)
-stops_first a b c x y BadJson h = ap (λ o. joined o y) h
-stops_first a b c x y OutOfMemory h = tt
 
 each_both : {B : Type 0} (h : B → List ℕ) (p : Option B) (q : Option (List B))
     → option_map (flat_map h) (option_and_then (λ y. option_map (λ ys. y ∷ ys) q) p) ≡ joined (option_map h p) (option_map (flat_map h) q)

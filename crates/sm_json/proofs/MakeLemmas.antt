@@ -1,10 +1,8 @@
 -- Values that are made one after another.
-use Rattle.std.proofs.Common.{◌≡◌, ◌≢◌, ℕ, zero, suc, ◌+◌, ◌<◌, ◌≤◌, ◌==◌, Bool, true, false, ◌&&◌, ◌||◌, nat_le, List, [], ◌∷◌, ◌++◌, length, map, take, get_or, All, Vec, Global, IsUtf8, IsAscii, refl, sym, ap, ◌∙◌, subst, arith, eqb-true, leb-true, codes, Option, Some, None, is_some, if◌then◌else◌, nat_eq, ℤ, pos, negsuc, w64, Result, Ok, Err, OnOk, IfOk}
+use Rattle.std.proofs.Common.{◌≡◌, ◌≢◌, ℕ, zero, suc, ◌+◌, ◌<◌, ◌≤◌, ◌==◌, Bool, true, false, ◌&&◌, ◌||◌, nat_le, List, [], ◌∷◌, ◌++◌, length, map, take, get_or, All, Vec, Global, IsUtf8, IsAscii, refl, sym, ap, ◌∙◌, subst, arith, eqb-true, leb-true, codes, Option, Some, None, if◌then◌else◌, ℤ, pos, negsuc, w64, Result, Ok, Err, OnOk, IfOk}
 use Rattle.std.specs.Int.RustNames.{unsigned_abs, FitsSigned}
-use Rattle.std.specs.List.{list_all, range_with_len, zip}
+use Rattle.std.specs.List.{list_all, zip}
 use Rattle.std.proofs.lemmas.Slice.Zip.{length-zip, get_or-zip}
-use Rattle.std.specs.Cmp.Lexicographic.{pointwise}
-use Rattle.std.proofs.lemmas.Bool.{false≢true}
 use Rattle.std.specs.declared.alloc.AllocError.{AllocError}
 use Rattle.std.proofs.lemmas.List.{take_all, map_more, get_or_default, get_or-map, length-map}
 use Rattle.std.proofs.lemmas.Str.{IsUtf8-from_ascii}
@@ -27,9 +25,9 @@ use Rattle.sm_json.specs.Parts.{has_capacities}
 use Rattle.sm_agents.specs.Nonzero.{is_zero}
 use Rattle.sm_agents.proofs.NonzeroLemmas.{zero_is}
 use Rattle.sm_printed.proofs.ItemLemmas.{weight_there, force_there, forbid_there}
-use Rattle.sm_instance.specs.declared.inputs.Input.TheVariants.{Two}
-use Rattle.sm_printed.specs.Names.{name_of, said_agent, said_pair, said_weight, said_of}
+use Rattle.sm_printed.specs.Names.{said_agent, said_pair, said_weight}
 use Rattle.sm_json.specs.Making.{array_of, agent_json, pair_json, weight_json, with_order, kind_name, two_json, said_by, put_if, put_order, sides_put, conditions_put, unless_empty, AreNamed, AreListed, AreAllListed}
+use Rattle.sm_agents.proofs.AgentLemmas.{agent_here}
 
 map_joined : {A B : Type 0} (f : A → B) (xs ys : List A) → map f (xs ++ ys) ≡ map f xs ++ map f ys
 map_joined f [] ys = refl
@@ -122,17 +120,13 @@ named agents single sound a below = (sound.sound a below).name
 pub all_listed : (agents : List AgentData) (others : ℕ) → AreSoundEntries agents others → AreAllListed agents others
 all_listed agents others sound a below i within = (sound.sound a i within).in_range
 
--- an agent that is held in a vector
-held_is : (agents : List Agent) (i : ℕ) (x : Agent) → i < length agents → x ≡ get_or agents i x → agent_at (agents_of agents) i ≡ agent_of x
-held_is agents i x below is = get_or-map agent_of agents i x no_agent below ∙ ap agent_of (sym is)
-
 pub item_named : (agents : List Agent) (i : ℕ) (x : Agent) → AreNamed (agents_of agents) → i < length agents → x ≡ get_or agents i x → is_name x.name.items ≡ true
 item_named agents i x names below is =
-    subst (λ (a : AgentData). is_name a.name ≡ true) (held_is agents i x below is) (names i (let e = length-map agents agent_of in omega (arith, e, below)))
+    subst (λ (a : AgentData). is_name a.name ≡ true) (agent_here agents i x below is) (names i (let e = length-map agents agent_of in omega (arith, e, below)))
 
 pub item_listed : (agents : List Agent) (i others : ℕ) (x : Agent) → AreAllListed (agents_of agents) others → i < length agents → x ≡ get_or agents i x → AreListed x.entries.items others
 item_listed agents i others x lists below is =
-    subst (λ (a : AgentData). AreListed a.entries others) (held_is agents i x below is) (lists i (let e = length-map agents agent_of in omega (arith, e, below)))
+    subst (λ (a : AgentData). AreListed a.entries others) (agent_here agents i x below is) (lists i (let e = length-map agents agent_of in omega (arith, e, below)))
 
 -- pairs of an instance are pairs of its agents
 pub forced_there : (w : Written) → IsInstance w → All (IsPairOf (length w.proposers) (length w.reviewers)) w.forced
@@ -179,28 +173,6 @@ conditions_are_put kind lefts rights weights forced forbidden order ms e =
     ∙ ap object (members_ordered (string (kind_name kind)) (array_of (agent_json false) (map (said_agent rights) lefts))
     (array_of (agent_json (has_capacities kind)) (map (said_agent lefts) rights))
     (map (said_weight lefts rights) weights) (map (said_pair lefts rights) forced) (map (said_pair lefts rights) forbidden) order)
-
--- all proposers, in their order
-abbrev whole_order : Written → SaidOrder
-whole_order w = record { names = map (name_of w.proposers) w.order; line = 0 }
-
--- an order that is put
-pub order_put : (w : Written) → is_some (said_of (Two w)).order ≡ true → (ms : Members)
-    → put (codes "order") (array_of string (map (name_of w.proposers) w.order)) ms ≡ put_order (said_of (Two w)).order ms
-order_put w some ms = by_test (pointwise nat_eq w.order (range_with_len 0 (length w.proposers))) some
-  where
-    by_test : (t : Bool) → is_some (if t then None else Some (whole_order w)) ≡ true
-        → put (codes "order") (array_of string (map (name_of w.proposers) w.order)) ms ≡ put_order (if t then None else Some (whole_order w)) ms
-    by_test true some = absurd (false≢true some)
-    by_test false some = refl
-
--- one that isn't there
-pub order_left : (w : Written) → is_some (said_of (Two w)).order ≡ false → (ms : Members) → ms ≡ put_order (said_of (Two w)).order ms
-order_left w none ms = by_option (said_of (Two w)).order none
-  where
-    by_option : (o : Option SaidOrder) → is_some o ≡ false → ms ≡ put_order o ms
-    by_option None none = refl
-    by_option (Some o) none = absurd (false≢true (sym none))
 
 -- as many seconds as weights
 pub zip_long : {A B : Type 0} (xs : List A) (zs : List B) → length zs ≡ length xs → length (zip xs zs) ≡ length xs

@@ -15,7 +15,7 @@ use Rattle.sm_json.specs.Values.{has_only, items_in, every, name_in, names_in, i
 use Rattle.sm_json.specs.Parts.{at, agent_members, agent_of, agent_in, places_in, pair_in, both_in, weight_of, pair_weight_in, second_in}
 use Rattle.sm_json.specs.JsonText.{json_weight_line, second_text}
 use Rattle.sm_json.specs.Adding.{joined, texts}
-use Rattle.sm_json.specs.Roles.{members_of, owner_of, has_capacity, word_of, places_text, agent_line, with_end, names_added, name_added, parts_added, weight_parts_added, pair_text_among, weight_text_among, agent_added, agents_added, pair_added, pairs_added, weight_added, weights_added, order_added}
+use Rattle.sm_json.specs.Roles.{members_of, owner_of, has_capacity, word_of, places_text, agent_line, with_end, names_added, name_added, parts_added, weight_parts_added, weight_text_among, agent_added, agents_added, pair_added, pairs_added, weight_added, weights_added, order_added}
 use Rattle.sm_json.proofs.AddLemmas.{texts_every}
 
 -- the members of an agent
@@ -89,16 +89,6 @@ module _ (d : Data) (ds : List Data) (h : Some ds ≡ items_in d) where
   weights_text =
       ap (λ o. option_map (flat_map (λ w. with_end (json_weight_line w))) (option_and_then (every pair_weight_in) o)) (sym h)
       ∙ texts_every (λ w. with_end (json_weight_line w)) pair_weight_in ds
-
--- a pair
-pair_parts : (word : List ℕ) (pair : Option SaidPair)
-    → option_map (λ p. with_end (word ++ pair_text p)) pair ≡ joined (option_map (λ p. word ++ pair_text p) pair) (Some (LF ∷ []))
-pair_parts word None = refl
-pair_parts word (Some p) = refl
-
-pub pair_text_of : (word : List ℕ) (p r : Data)
-    → pair_text_among word (p ∷ r ∷ []) ≡ joined (option_map (λ pair. word ++ pair_text pair) (both_in p r)) (Some (LF ∷ []))
-pair_text_of word p r = pair_parts word (both_in p r)
 
 -- a weight
 five : (a p s z t l : List ℕ) → ((((a ++ p) ++ s) ++ z) ++ t) ++ l ≡ (a ++ p) ++ ((s ++ z) ++ (t ++ l))

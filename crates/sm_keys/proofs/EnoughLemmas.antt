@@ -17,10 +17,6 @@ use Rattle.sm_keys.proofs.TextLemmas.{same_text, equal_text}
 use Rattle.sm_keys.proofs.ListingLemmas.{repeated_among}
 use Rattle.sm_keys.proofs.NameLemmas.{names_from}
 
--- all tokens are enough
-pub enough_all : (tokens : List (List ℕ)) → AreEnough tokens tokens
-enough_all tokens = record { first = refl; tests = λ test. refl; repeated = refl; whole = λ h. refl }
-
 -- enough of what is enough is enough
 pub enough_twice : (a b d : List (List ℕ)) → AreEnough a b → AreEnough b d → AreEnough a d
 enough_twice a b d h k = record {

@@ -9,6 +9,7 @@ use Rattle.sm_report.specs.Fields.{spaced}
 use Rattle.sm_report.proofs.DecimalLemmas.{first_true, second_true}
 use Rattle.sm_report.proofs.FreeLemmas.{is_free}
 use Rattle.sm_answer.specs.Writing.{text_of}
+use Rattle.sm_report.proofs.FieldInverses.{name_bytes}
 
 -- a line with its end
 abbrev pub with_end : List ℕ → List ℕ
@@ -52,13 +53,10 @@ pub record IsRun (run : List ℕ) : Type 0 where
   pub some : 0 < length run
   pub bytes : list_all is_name_byte run ≡ true
 
-name_parts : (run : List ℕ) → is_name run ≡ true → list_all is_name_byte run ≡ true
-name_parts run h = second_true _ (list_all is_name_byte run) h
-
 -- a name is a run of name bytes
 pub name_is_run : (name : List ℕ) → is_name name ≡ true → IsRun name
 name_is_run [] h = absurd cc
-name_is_run (b ∷ name) h = record { some = omega arith; bytes = name_parts (b ∷ name) h }
+name_is_run (b ∷ name) h = record { some = omega arith; bytes = name_bytes (b ∷ name) h }
 
 -- a run is the first token of a line where no name byte stands behind it
 joins : (b : ℕ) (rest : List ℕ) → is_name_byte b ≡ true → begins_run rest ≡ true → tokens (b ∷ rest) ≡ onto_first b (tokens rest)

@@ -18,10 +18,11 @@ use Rattle.sm_forms.specs.Forms.{Form, declares, orders, weighs, list_form, capa
 use Rattle.sm_keys.specs.Tokens.{is_bad}
 use Rattle.sm_reader.specs.Judging.{goes, stops, of_form, heads, heading_of, verdict_on, first_fault, fault_of, said_with, is_bad_capacity, weight_in, second_in}
 use Rattle.sm_keys.specs.Tables.{has_repeated}
-use Rattle.sm_forms.proofs.NameLemmas.{names_begin}
+use Rattle.sm_forms.proofs.NameLemmas.{names_begin, name_begins}
 use Rattle.sm_report.proofs.DecimalLemmas.{first_true}
 use Rattle.sm_printed.specs.Printed.{header_line}
 use Rattle.sm_law_reprint.proofs.LineLemmas.{headers_cut, end_cut}
+use Rattle.sm_keys.proofs.RunLemmas.{run_no_bad}
 
 -- a line of a form without a fault goes on
 goes_under : (kind : Kind) (format : ℕ) (said : Said) (n : ℕ) (word : List ℕ) (rest : List (List ℕ)) (form : Form) → list_any is_bad (word ∷ rest) ≡ false → is_end (word ∷ rest) ≡ false
@@ -57,14 +58,9 @@ verdict_is kind format said n word rest good more formed =
 
 -- No token is bad.
 
-run_good : (token : List ℕ) → begins_run token ≡ true → is_bad token ≡ false
-unfolding is_bad
-run_good [] h = absurd cc
-run_good (b ∷ token) h = ap (λ t. not (t || is_mark b)) h
-
 runs_good : (ts : List (List ℕ)) → list_all begins_run ts ≡ true → list_any is_bad ts ≡ false
 runs_good [] h = refl
-runs_good (t ∷ ts) h = rest_good (is_bad t) (run_good t (first_true (begins_run t) (list_all begins_run ts) h)) (runs_good ts (behind (begins_run t) h))
+runs_good (t ∷ ts) h = rest_good (is_bad t) (run_no_bad t (first_true (begins_run t) (list_all begins_run ts) h)) (runs_good ts (behind (begins_run t) h))
   where
     rest_good : (b : Bool) → b ≡ false → list_any is_bad ts ≡ false → (b || list_any is_bad ts) ≡ false
     rest_good true h more = absurd cc
@@ -73,9 +69,6 @@ runs_good (t ∷ ts) h = rest_good (is_bad t) (run_good t (first_true (begins_ru
     behind : (b : Bool) → (b && list_all begins_run ts) ≡ true → list_all begins_run ts ≡ true
     behind true h = h
     behind false h = absurd cc
-
-name_begins : (name : List ℕ) → is_name name ≡ true → begins_run name ≡ true
-name_begins name h = first_true (begins_run name) true (names_begin (name ∷ []) (and_from (is_name name) true h refl))
 
 marks_good : (is_bad (codes ":") ≡ false) × (is_bad (codes "[") ≡ false) × (is_bad (codes "]") ≡ false)
 unfolding is_bad is_mark begins_name is_name_byte
@@ -156,7 +149,7 @@ module _ (said : Said) (name : List ℕ) (entries : List (List ℕ)) where
       let is = name_begins name ok.is in
       let are = names_begin entries ok.are in
       goes_with kind format said n (codes "p") (name ∷ codes ":" ∷ entries) (declares Proposers name None entries)
-      (let w = words_good.0 in let m = marks_good.0 in let a = run_good name is in let b = runs_good entries are in rw (w, a, m, b) refl)
+      (let w = words_good.0 in let m = marks_good.0 in let a = run_no_bad name is in let b = runs_good entries are in rw (w, a, m, b) refl)
       (no_end (codes "p") name (codes ":" ∷ entries)) (p_form name entries is are kind) (no_fault said Proposers name None entries ok refl)
 
   -- in a marriage so does that of a reviewer
@@ -166,7 +159,7 @@ module _ (said : Said) (name : List ℕ) (entries : List (List ℕ)) where
       let is = name_begins name ok.is in
       let are = names_begin entries ok.are in
       goes_with Marriage format said n (codes "r") (name ∷ codes ":" ∷ entries) (declares Reviewers name None entries)
-      (let w = words_good.1 in let m = marks_good.0 in let a = run_good name is in let b = runs_good entries are in rw (w, a, m, b) refl)
+      (let w = words_good.1 in let m = marks_good.0 in let a = run_no_bad name is in let b = runs_good entries are in rw (w, a, m, b) refl)
       (no_end (codes "r") name (codes ":" ∷ entries)) (r_form name entries is are) (no_fault said Reviewers name None entries ok refl)
 
   -- in hospitals so does that of a reviewer with its capacity
@@ -176,7 +169,7 @@ module _ (said : Said) (name : List ℕ) (entries : List (List ℕ)) where
       let is = name_begins name ok.is in
       let are = names_begin entries ok.are in
       goes_with Hospitals format said n (codes "r") (name ∷ codes "[" ∷ number ∷ codes "]" ∷ codes ":" ∷ entries) (declares Reviewers name (Some number) entries)
-      (let w = words_good.1 in let a = run_good name is in let o = marks_good.1 in let d = run_good number digits in let e = marks_good.2 in let m = marks_good.0 in
+      (let w = words_good.1 in let a = run_no_bad name is in let o = marks_good.1 in let d = run_no_bad number digits in let e = marks_good.2 in let m = marks_good.0 in
       let b = runs_good entries are in rw (w, a, o, d, e, m, b) refl)
       (no_end (codes "r") name (codes "[" ∷ number ∷ codes "]" ∷ codes ":" ∷ entries)) (h_form name entries is are number digits) (no_fault said Reviewers name (Some number) entries ok right)
 
@@ -250,9 +243,9 @@ module _ (said : Said) (proposer reviewer : List ℕ) (first : is_name proposer 
         let a = name_begins proposer first in
         let b = name_begins reviewer second in
         let w = words_good.2 in
-        let c = run_good proposer a in
-        let d = run_good reviewer b in
-        let e = run_good run begin in
+        let c = run_no_bad proposer a in
+        let d = run_no_bad reviewer b in
+        let e = run_no_bad run begin in
         goes_with kind format said n (codes "weight") (proposer ∷ reviewer ∷ run ∷ []) (weighs proposer reviewer run None) (rw (w, c, d, e) refl)
         (no_end (codes "weight") proposer (reviewer ∷ run ∷ [])) (weight_formed kind two a b) (weight_faultless None refl)
         ∙ ap (λ s. goes s) (weight_said n None (pos 0) refl)
@@ -264,10 +257,10 @@ module _ (said : Said) (proposer reviewer : List ℕ) (first : is_name proposer 
         let a = name_begins proposer first in
         let b = name_begins reviewer second in
         let w = words_good.2 in
-        let c = run_good proposer a in
-        let d = run_good reviewer b in
-        let e = run_good run begin in
-        let f = run_good further begins in
+        let c = run_no_bad proposer a in
+        let d = run_no_bad reviewer b in
+        let e = run_no_bad run begin in
+        let f = run_no_bad further begins in
         goes_under kind 2 said n (codes "weight") (proposer ∷ reviewer ∷ run ∷ further ∷ []) (weighs proposer reviewer run (Some further)) (rw (w, c, d, e, f) refl)
         (no_end (codes "weight") proposer (reviewer ∷ run ∷ further ∷ [])) (second_formed kind further two a b begins) (weight_faultless (Some further) (ap is_none is))
         ∙ ap (λ s. goes s) (weight_said n (Some further) other is)
@@ -279,8 +272,8 @@ module _ (said : Said) (proposer reviewer : List ℕ) (first : is_name proposer 
       let a = name_begins proposer first in
       let b = name_begins reviewer second in
       let w = words_good.3 in
-      let c = run_good proposer a in
-      let d = run_good reviewer b in
+      let c = run_no_bad proposer a in
+      let d = run_no_bad reviewer b in
       verdict_is kind format said n (codes "force") (proposer ∷ reviewer ∷ []) (rw (w, c, d) refl) (no_end (codes "force") proposer (reviewer ∷ [])) (force_formed kind two a b) ∙ force_of kind n two a b
 
   -- the line of a forbidden pair goes on, and adds it
@@ -290,8 +283,8 @@ module _ (said : Said) (proposer reviewer : List ℕ) (first : is_name proposer 
       let a = name_begins proposer first in
       let b = name_begins reviewer second in
       let w = words_good.4 in
-      let c = run_good proposer a in
-      let d = run_good reviewer b in
+      let c = run_no_bad proposer a in
+      let d = run_no_bad reviewer b in
       verdict_is kind format said n (codes "forbid") (proposer ∷ reviewer ∷ []) (rw (w, c, d) refl) (no_end (codes "forbid") proposer (reviewer ∷ [])) (forbid_formed kind two a b) ∙ forbid_of kind n two a b
 
 -- The verdict on an order.

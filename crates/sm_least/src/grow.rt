@@ -219,7 +219,7 @@ pub(crate) fn find(course: &Course, gates: &Gates, held: &mut Held) -> bool
     false
 }
 
-/// All go on to open stays. False where one can't.
+/// Moves everyone to an open stay; false if someone has none.
 fn grow_all(course: &Course, gates: &Gates, held: &mut Held) -> bool
     requires held { IsHeld course.now.board held.old }
     requires gates { AreGatesOf course.now.board gates.now }

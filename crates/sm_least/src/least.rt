@@ -117,6 +117,7 @@ impl Least {
     }
 
     /// The levels with which it was started: for each proposer one for each place of its list, and one for being unmatched.
+    /// Takes constant time.
     pub fn levels(&self) -> &[Vec<u32>]
         ensures { rows_of result.now ≡ self.now.levels }
     {
@@ -295,7 +296,8 @@ impl Least {
         write_levels(self.course.board(), &set.members, into);
     }
 
-    /// The closed set that is held: after a call of [`Least::least`] that answered true the one that it found.
+    /// The closed set that is held: after a call of [`Least::least`] that answered true the one that it found. Takes
+    /// constant time.
     pub fn held(&self) -> &ClosedSet
         ensures set { result.now.members.items ≡ self.now.held.set }
         ensures closed { IsClosed self.now.poset.lists self.now.poset.rotations
@@ -304,7 +306,7 @@ impl Least {
         self.held.set()
     }
 
-    /// What it is made of, for a walk that steps on from what is held.
+    /// What it is made of, for a walk that steps on from what is held. Takes constant time.
     pub fn into_parts(self) -> SearchParts
         ensures parts { search_of result ≡ self }
         ensures search { IsSearch self }

@@ -29,7 +29,7 @@ impl Model for Listing {
 }
 
 impl Listing {
-    /// The vectors that a lister has still to give, at most `limit`.
+    /// The vectors that a lister has still to give, at most `limit`. Takes constant time and no memory.
     pub fn new(lister: Lister, limit: u32) -> Listing
         ensures lister { result.lister ≡ lister }
         ensures left { result.left ≡ limit }

@@ -5,8 +5,8 @@ ghost use Rattle.sm_lists.specs.CompactNamings.{IsNamed, naming_at};
 
 use crate::naming::{KeptNaming, Naming};
 
-/// That an agent of one side names a certain agent of the other, at a place of its list. Both are numbered from 0, and are less
-/// than 65,536: half as large as a `Naming`.
+/// Who names an agent, and at which place of its list. Both are numbered from 0, and are less than 65,536: half as large as a
+/// `Naming`.
 #[derive(Clone, Copy)]
 pub struct CompactNaming {
     pub by: u16,

@@ -27,7 +27,7 @@ impl Model for Cross {
 }
 
 impl Cross {
-    /// The place, counted from 0.
+    /// The place, counted from 0. Takes constant time.
     pub fn place(self) -> Option<u32>
         ensures { result ≡ self }
     {

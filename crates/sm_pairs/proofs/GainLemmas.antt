@@ -12,7 +12,7 @@ use Rattle.sm_instance.proofs.AcceptLemmas.{cross_some}
 use Rattle.sm_agents.proofs.ListLemmas.{row_in_range}
 use Rattle.sm_instance.proofs.PlaceLemmas.{place_of-entry}
 use Rattle.sm_lists.proofs.PlaceLemmas.{get_or-place_on}
-use Rattle.sm_pairs.specs.Gains.{IsWorstBelow, AreWorstBelow, AreWorst, AreGainLimits, BlocksNone, IsFirstWith}
+use Rattle.sm_pairs.specs.Gains.{IsWorstBelow, AreWorstBelow, BlocksNone, IsFirstWith}
 
 -- a reviewer with a free place gains by all whom it lists
 pub limit_free : (w : Written) (places : List (Option ℕ)) (r : ℕ) → load w places r < capacity_of w.reviewers r → IsGainLimit w places r (length (row w.reviewers r))
@@ -35,9 +35,6 @@ pub record AreLimitsBelow (w : Written) (places : List (Option ℕ)) (k : ℕ) (
   pub one_each : length limits ≡ length w.reviewers
   pub known : (r : ℕ) → r < k → r < length w.reviewers → IsGainLimit w places r (slice_index limits r)
   pub rest : (r : ℕ) → k ≤ r → r < length w.reviewers → IsWorstBelow w places (length w.proposers) r (slice_index limits r)
-
-pub limits_start : {w : Written} {places : List (Option ℕ)} {worst : List ℕ} → AreWorst w places worst → AreLimitsBelow w places 0 worst
-limits_start h = record { one_each = h.one_each; known = λ r lt. absurd (omega arith); rest = λ r le. h.each r }
 
 -- one more with a free place
 pub limits_free : {w : Written} {places : List (Option ℕ)} {k : ℕ} {limits : List ℕ} → AreLimitsBelow w places k limits → k < length w.reviewers → load w places k < capacity_of w.reviewers k
@@ -67,9 +64,6 @@ limits_full {w} {places} {k} {limits} m h full =
           (cases_lt r k);
       rest = λ r le. h.rest r (omega arith);
     }
-
-pub limits_end : {w : Written} {places : List (Option ℕ)} {k : ℕ} {limits : List ℕ} → AreLimitsBelow w places k limits → length w.reviewers ≤ k → AreGainLimits w places limits
-limits_end h whole = record { one_each = h.one_each; each = λ r lt. h.known r (omega arith) lt }
 
 -- one more proposer, which has the reviewer of this place
 pub worst_more : {w : Written} {places : List (Option ℕ)} {k : ℕ} {worst : List ℕ} → AreWorstBelow w places k worst → (i back r : ℕ) → held places k ≡ Some i → r ≡ entry w.proposers k i → r < length w.reviewers

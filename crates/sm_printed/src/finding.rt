@@ -22,9 +22,9 @@ pub(crate) enum InstanceLine {
     Reviewer(u32),
     /// The weight of a proposer and a reviewer, and their second weight.
     Weight(u32, u32, i64, i64),
-    /// A proposer and a reviewer of whom it is asked that they are partners.
+    /// A forced pair.
     Force(u32, u32),
-    /// A proposer and a reviewer of whom it is asked that they aren't.
+    /// A forbidden pair.
     Forbid(u32, u32),
     /// All proposers, in the order in which they are compared.
     Order,

@@ -17,8 +17,3 @@ if_err P Q (Err e) h f = f e h
 pub on_err : {T E : Type 0} (P : E → Type 0) (r : Result T E) (x : E) → IsErrAnd r (λ e. e ≡ x) → P x → IfErr r P
 on_err P (Ok y) x h k = tt
 on_err P (Err e) x h k = subst P (sym h) k
-
--- what isn't some is none
-pub none_if : {X : Type 0} (o : Option X) → is_some o ≡ false → o ≡ None
-none_if None h = refl
-none_if (Some x) h = absurd (false≢true (sym h))

@@ -12,7 +12,7 @@ use sm_keys::has_repeated;
 use sm_text::RefusalKind;
 use std::alloc::Global;
 
-/// Looks for a fault of the order of the proposers that come first, of whom the last `names` runs are names, and no more.
+/// Looks for a fault of the order of the proposers that come first; only the last `names` runs are names.
 pub(crate) fn check_order(
     alloc: Global,
     draft: &Draft<'_>,

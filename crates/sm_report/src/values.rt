@@ -10,7 +10,7 @@ use sm_text::{MOST_LIMIT, is};
 /// The least limit.
 const LEAST_LIMIT: u32 = 1;
 
-/// The side of this name, `proposers` or `reviewers`. `None` exactly for any other.
+/// The side of this name, `proposers` or `reviewers`. `None` exactly for any other. Takes constant time.
 pub fn side_named(name: &[u8]) -> Option<Side>
     ensures { result ≡ look_up sides name.now }
 {
@@ -23,7 +23,7 @@ pub fn side_named(name: &[u8]) -> Option<Side>
     }
 }
 
-/// The measure of this name, `ranks` or `given`. `None` exactly for any other.
+/// The measure of this name, `ranks` or `given`. `None` exactly for any other. Takes constant time.
 pub fn measure_named(name: &[u8]) -> Option<Measure>
     ensures { result ≡ look_up measures name.now }
 {
@@ -36,7 +36,8 @@ pub fn measure_named(name: &[u8]) -> Option<Measure>
     }
 }
 
-/// The limit that a text spells, from 1 to [`MOST_LIMIT`]. `None` exactly where the text spells none.
+/// The limit that a text spells, from 1 to [`MOST_LIMIT`]. `None` exactly where the text spells none. Takes time in the
+/// length of the text.
 pub fn limit_named(text: &[u8]) -> Option<u32>
     ensures { result ≡ limit_named text.now }
 {

@@ -7,10 +7,10 @@ use Rattle.sm_lists.proofs.PlaceLemmas.{entry-place_of}
 use Rattle.sm_lists.proofs.PlaceLemmas.{place_on_is, place_on-lt}
 use Rattle.sm_lists.proofs.ItemLemmas.{push_cases}
 use Rattle.sm_theory.specs.Rooms.{AreRoomLists}
-use Rattle.sm_theory.proofs.Room.Bridge.{listed_in_range}
 use Rattle.sm_room.specs.Bounds.{IsLeft, bound_in}
 use Rattle.sm_room.specs.Tables.{ListsLeft, IsTable, IsBound, AreBoundsOf}
 use Rattle.sm_room.specs.Proposing.{IsListLeft}
+use Rattle.sm_lists.proofs.RowLemmas.{row_in_range}
 
 -- an entry has its own place
 pub place_of-entry : {rows : List (List ℕ)} → AreRoomLists rows → (x i : ℕ) → i < length (row rows x) → place_of rows x (entry rows x i) ≡ i
@@ -101,12 +101,12 @@ pub lists_end : {rows : List (List ℕ)} {bounds : List ℕ} {upto : ℕ} {table
 lists_end {rows} {bounds} {upto} {table} g full = record {
   one_each = g.one_each ∙ full;
   left = λ x i on. (g.each x (inside x i on)).left i on;
-  all = λ x y l. let lt = listed_in_range rows x (place_of rows x y) l.acc.listed in let w = (g.each x (omega arith)).all y l l.acc.listed in place_on-lt (row table x) y w.0 w.1 w.2;
+  all = λ x y l. let lt = row_in_range rows x (place_of rows x y) l.acc.listed in let w = (g.each x (omega arith)).all y l l.acc.listed in place_on-lt (row table x) y w.0 w.1 w.2;
   ordered = λ x i j l on. (g.each x (inside x j on)).ordered i j l on;
 }
   where
     inside : (x i : ℕ) → i < length (row table x) → x < upto
-    inside x i on = let k = listed_in_range table x i on in let e = g.one_each in omega arith
+    inside x i on = let k = row_in_range table x i on in let e = g.one_each in omega arith
 
 -- the bounds that are read of each list of a table are those of the table
 pub are_bounds_of : (rows table : List (List ℕ)) (bounds : List ℕ) → IsTable rows table → length bounds ≡ length rows → ((x : ℕ) → x < length rows → IsBound rows table x (get_or bounds x 0))
@@ -116,5 +116,5 @@ are_bounds_of rows table bounds t long each = record {
     | inl l ↦ (each x l).empty e
     | inr l ↦ get_or_past bounds x 0 (omega (arith, long, l)) ∙ sym (ap length (get_or_past rows x [] l))
   ];
-  last = λ x some. (each x (let k = listed_in_range table x 0 some in let e = t.one_each in omega arith)).last some;
+  last = λ x some. (each x (let k = row_in_range table x 0 some in let e = t.one_each in omega arith)).last some;
 }

@@ -4,8 +4,8 @@ use Rattle.sm_lists.specs.Rows.{row, entry, place_of}
 use Rattle.sm_lists.proofs.Counting.{Decided, Decided-lt, Decided-le, Decided-eq, Decided-not, Decided-and, lt_or_le, search_below}
 use Rattle.sm_lists.proofs.PlaceLemmas.{entry-place_of}
 use Rattle.sm_theory.specs.Rooms.{IsAcceptable}
-use Rattle.sm_theory.proofs.Room.Bridge.{listed_in_range}
 use Rattle.sm_room.specs.Bounds.{IsLeft, IsFirst, IsLast, IsSecond}
+use Rattle.sm_lists.proofs.RowLemmas.{row_in_range}
 
 -- acceptance is mutual
 pub turn : (rows : List (List ℕ)) (x y : ℕ) → IsAcceptable rows x y → IsAcceptable rows y x
@@ -13,7 +13,7 @@ turn rows x y h = record { apart = λ e. h.apart (sym e); listed = h.returned; r
 
 -- who is acceptable to somebody is a person
 pub inside_rows : (rows : List (List ℕ)) (x y : ℕ) → IsAcceptable rows x y → x < length rows
-inside_rows rows x y h = listed_in_range rows x (place_of rows x y) h.listed
+inside_rows rows x y h = row_in_range rows x (place_of rows x y) h.listed
 
 -- who stands at one place is one person
 pub one_at : (rows : List (List ℕ)) (x y z : ℕ) → IsAcceptable rows x y → IsAcceptable rows x z → place_of rows x y ≡ place_of rows x z → y ≡ z

@@ -72,7 +72,7 @@ impl RoomMarket {
         Ok(RoomMarket { lists, crosses })
     }
 
-    /// How many persons there are.
+    /// How many persons there are. Takes constant time.
     pub fn persons(&self) -> u32
         ensures count { result ≡ length self.now }
         ensures lists { AreRoomLists self.now }
@@ -81,7 +81,7 @@ impl RoomMarket {
         self.lists.len() as u32
     }
 
-    /// A person's list, best first.
+    /// A person's list, best first. Takes constant time.
     #[tactic(auto, using(sm_lists::proofs::RowLemmas::row_fits))]
     pub fn list(&self, x: u32) -> &[u32]
         requires { x < length self.now }
@@ -91,7 +91,7 @@ impl RoomMarket {
         list_at(&self.lists, x)
     }
 
-    /// How many entries a person's list has.
+    /// How many entries a person's list has. Takes constant time.
     pub fn len(&self, x: u32) -> u32
         requires { x < length self.now }
         ensures count { result ≡ length (row self.now x) }
@@ -100,7 +100,7 @@ impl RoomMarket {
         self.list(x).len() as u32
     }
 
-    /// The person at a place of a person's list.
+    /// The person at a place of a person's list. Takes constant time.
     pub fn at(&self, x: u32, place: u32) -> u32
         requires in_range { x < length self.now }
         requires on_list { place < length (row self.now x) }

@@ -9,7 +9,8 @@ use Rattle.sm_market.specs.Stable.{IsStable}
 use Rattle.sm_theory.specs.Rotations.{IsSuccessor, IsExposed, proposer_at, eliminated}
 use Rattle.sm_rotations.specs.Footings.{AreTargetPlaces}
 use Rattle.sm_rotations.specs.Walking.{spot_of, IsStack, AreStackPairs, IsTopTakenOff, AreFound}
-use Rattle.sm_rotations.proofs.WalkLemmas.{one_place, place_kept}
+use Rattle.sm_rotations.proofs.WalkLemmas.{place_kept}
+use Rattle.sm_theory.proofs.Chains.Links.{successor_once}
 
 -- with an empty stack there is none
 pub found_start : {l : Lists} {m : Places} {stack : List ℕ} (n : ℕ) (from : List ℕ) → stack ≡ [] → AreFound l m stack n from
@@ -68,5 +69,5 @@ module _ {l : Lists} (h : IsMarket l) {m : Places} (s : IsStable l m) {stack fro
     one_each = long;
     each = λ i within.
         let there = w.each (spot + i) (omega (arith, a.as_many)) in
-        one_place (rw (← a.who i within) at there) (x.next i within);
+        successor_once (rw (← a.who i within) at there) (x.next i within);
   }

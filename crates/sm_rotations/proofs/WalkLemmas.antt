@@ -15,10 +15,7 @@ use Rattle.sm_theory.proofs.Bridge.Rotation.{succ_back, exposed_of, elim_of, eli
 use Rattle.sm_successors.proofs.NextLemmas.{first_is}
 use Rattle.sm_rotations.proofs.FollowingLemmas.{pair_of_held, succ_at}
 use Rattle.sm_rotations.specs.Walking.{IsNext, IsAtWorst, IsStack, AreStackPairs, spot_of}
-
--- a proposer has one successor
-pub one_place : {l : Lists} {m : Places} {p i j : ℕ} → IsSuccessor l m p i → IsSuccessor l m p j → i ≡ j
-one_place x y = first_is y x.first (λ _. x.behind) (λ _. x.takes)
+use Rattle.sm_theory.proofs.Chains.Links.{successor_once}
 
 module _ {l : Lists} (h : IsMarket l) {m : Places} (s : IsStable l m) where
   -- a proposer is finished where it has no successor, or where the one that has its successor is finished
@@ -83,7 +80,7 @@ module _ {l : Lists} (h : IsMarket l) {m : Places} (s : IsStable l m) where
 
       -- and so does the place where it stands
       pub place_kept : {i : ℕ} → IsSuccessor l m p i → IsSuccessor l (eliminated l m rotation) p i
-      place_kept y = let same = one_place w.next y in rw (← same) (succ_back h {m = eliminated l m rotation} p w.target target_kept)
+      place_kept y = let same = successor_once w.next y in rw (← same) (succ_back h {m = eliminated l m rotation} p w.target target_kept)
 
   -- where all are finished nothing is exposed
   pub all_worst : ((p : ℕ) → IsAtWorst l m p) → (rotation : List (ℕ × ℕ)) → ¬ IsExposed l m rotation

@@ -184,7 +184,7 @@ fn write_over(bytes: &mut Vec<u8>, from: usize, new: &[u8; WIDTH])
     bytes[from..from + WIDTH].copy_from_slice(new);
 }
 
-/// Sees to it that behind the first `len` bytes there are so many more to write over, and answers where these end.
+/// Ensures `more` writable bytes behind the first `len`, and answers where they end.
 #[inline(always)]
 fn make_ready(bytes: &mut Vec<u8>, len: usize, more: usize) -> Result<usize, AllocError>
     requires within { len ≤ vec_len bytes.old }

@@ -3,9 +3,8 @@ use Rattle.std.proofs.Common.{◌≡◌, ℕ, ◌≤◌, Bool, true, false, List
 use Rattle.sm_io.specs.Faults.{Rose}
 use Rattle.sm_io.specs.Sink.{Grows, IsPart}
 use Rattle.sm_io.proofs.FaultLemmas.{Rose-sooner}
-use Rattle.sm_io.proofs.SinkLemmas.{Grows-nil, Grows-trans, IsPart-more, IsPart-after, IsPart-front}
+use Rattle.sm_io.proofs.SinkLemmas.{Grows-trans, IsPart-more, IsPart-after, IsPart-front}
 use Rattle.sm_text.specs.Lines.{LF}
-use Rattle.sm_text.specs.Plain.{is_plain}
 use Rattle.sm_answer.specs.Giving.{HasRest, PutLine}
 use Rattle.sm_json.specs.Wrapping.{wrapped, wrapped_from, json_of_lines}
 use Rattle.sm_wrapped.specs.Writing.{WroteArray, WroteArrayFront}
@@ -40,14 +39,6 @@ pub record IsWrappedSoFar (all left : List (List ℕ) → Type 0) (first : Bool)
   pub more : HasRest left
   pub written : Grows before now (wrapped_from true done)
   pub later : f ≤ g
-
--- before the first line nothing is written
-pub nothing_wrapped : (all : List (List ℕ) → Type 0) (a : Option (List ℕ)) (f : ℕ) → HasRest all → IsWrappedSoFar all all true a a f f
-nothing_wrapped all a f more = record { done = []; first_is = refl; sound = λ rest given. given; more = more; written = Grows-nil a; later = omega arith }
-
--- the line that was put is plain
-pub line_is_plain : (before after : List (List ℕ) → Type 0) (n m : ℕ) (held holds : List ℕ) → PutLine before after n m held holds → held ≡ [] → is_plain holds ≡ true
-line_is_plain before after n m held holds gave none = ap is_plain (gave.put ∙ ap (λ t. t ++ gave.line) none) ∙ gave.plain
 
 -- the piece is the item of the line that was put
 item_is : (before after : List (List ℕ) → Type 0) (n m : ℕ) (held holds piece : List ℕ) (first : Bool) → (gave : PutLine before after n m held holds) → held ≡ [] → piece ≡ wrapped first holds → piece ≡ wrapped first gave.line
@@ -85,10 +76,6 @@ wrapped_front all left first a b f g w = record {
   is_right = w.sound w.more.lines w.more.given;
   written = subst (IsPart a b) (sym (array_behind_done all left first a b f g w w.more.lines)) (IsPart-front a b (wrapped_from true w.done) (wrapped_from first w.more.lines ++ closing) w.written);
 }
-
--- nor for the first
-pub wrapped_nothing : (all : List (List ℕ) → Type 0) (a : Option (List ℕ)) (f : ℕ) → HasRest all → WroteArrayFront all a a
-wrapped_nothing all a f more = wrapped_front all all true a a f f (nothing_wrapped all a f more)
 
 -- the sink failed at a line
 pub wrapped_part : (all before after : List (List ℕ) → Type 0) (first : Bool) (n m : ℕ) (held holds piece : List ℕ) (a b c : Option (List ℕ)) (f g h : ℕ)

@@ -8,10 +8,7 @@ use Rattle.sm_theory.specs.Rooms.{IsAcceptable, mate_of, place_of_mate, IsRoomMa
 use Rattle.sm_theory.specs.Partitions.{successor_in, predecessor_in, after, party_place, IsStablePartition, IsInOddParty}
 use Rattle.sm_theory.proofs.Bridge.Places.{row_past}
 use Rattle.sm_theory.proofs.Room.Core.{Persons, Way, turned, Goes, Parting}
-
--- who has somebody on its list is in range
-pub listed_in_range : (rows : List (List ℕ)) (x i : ℕ) → i < length (row rows x) → x < length rows
-listed_in_range rows x i h = elim (lt_or_le x (length rows)) [ inl k ↦ k | inr k ↦ absurd (omega (arith, row_past rows x k)) ]
+use Rattle.sm_lists.proofs.RowLemmas.{row_in_range}
 
 -- lists of roommates as functions
 abbrev pub persons_of : List (List ℕ) → Persons
@@ -22,7 +19,7 @@ persons_of rows = record {
   Acc = IsAcceptable rows;
   turn = λ x y h. record { apart = λ e. h.apart (sym e); listed = h.returned; returned = h.listed };
   on = λ x y h. h.listed;
-  inside = λ x y h. listed_in_range rows x (place_of rows x y) h.listed;
+  inside = λ x y h. row_in_range rows x (place_of rows x y) h.listed;
   one = λ x y z h k e. sym (entry-place_of rows x y h.listed) ∙ ap (entry rows x) e ∙ entry-place_of rows x z k.listed;
 }
 
@@ -157,7 +154,7 @@ module _ {rows : List (List ℕ)} {next : List ℕ} (h : IsStablePartition rows 
   }
     where
       inside : (x : ℕ) → own_place rows x (successor_in next x) < length (row rows x) → x < length rows
-      inside x less = listed_in_range rows x _ less
+      inside x less = row_in_range rows x _ less
 
   goes_from : Goes (persons_of rows) (turned (way_of_parties rows next))
   goes_from = record {
@@ -171,7 +168,7 @@ module _ {rows : List (List ℕ)} {next : List ℕ} (h : IsStablePartition rows 
   }
     where
       inside : (x : ℕ) → own_place rows x (predecessor_in next x) < length (row rows x) → x < length rows
-      inside x less = listed_in_range rows x _ less
+      inside x less = row_in_range rows x _ less
 
       acc : (x : ℕ) → own_place rows x (predecessor_in next x) < length (row rows x) → IsAcceptable rows x (predecessor_in next x)
       acc x less =

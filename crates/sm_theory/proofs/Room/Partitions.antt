@@ -8,7 +8,8 @@ use Rattle.sm_theory.specs.Rooms.{IsAcceptable, mate_of, place_of_mate, IsRoomMa
 use Rattle.sm_theory.specs.Partitions.{successor_in, predecessor_in, after, IsStablePartition, IsInOddParty, IsLowestOfOdd, PairsAlternately}
 use Rattle.sm_theory.specs.LawsRooms.{OddPartyExcludes, SameOddParties, SamePersons, EvenPartiesPair, RestIsStable}
 use Rattle.sm_theory.proofs.Room.Core.{Way, Parting, Between, cover, same_alone, between_same, same_to, all_between}
-use Rattle.sm_theory.proofs.Room.Bridge.{listed_in_range, persons_of, parting_of_mates, way_of_parties, own_place, own_self, own_other, before_next, has_before, parting_of_parties, after_is, odd_gap}
+use Rattle.sm_theory.proofs.Room.Bridge.{persons_of, parting_of_mates, way_of_parties, own_place, own_self, own_other, before_next, has_before, parting_of_parties, after_is, odd_gap}
+use Rattle.sm_lists.proofs.RowLemmas.{row_in_range}
 
 -- every person of an odd party lies between, for any other parting
 between_in : {rows : List (List ℕ)} {next : List ℕ} (h : IsStablePartition rows next) {n : Way} → Parting (persons_of rows) n → {x : ℕ} → IsInOddParty rows next x → (k : ℕ) → Between (way_of_parties rows next) n (after next x k)
@@ -99,8 +100,8 @@ module _ {rows : List (List ℕ)} {next : List ℕ} {mates : List (Option ℕ)} 
   rest = (
     record { one_each = p.one_each; acceptable = acceptable; in_turn = p.in_turn },
     λ x y sx sy b. (parting_of_parties h).unblocked x y b.acceptable
-        (omega (arith, b.first_gains, stays x (listed_in_range rows x _ b.acceptable.listed) sx))
-        (omega (arith, b.second_gains, stays y (listed_in_range rows y _ b.acceptable.returned) sy)),
+        (omega (arith, b.first_gains, stays x (row_in_range rows x _ b.acceptable.listed) sx))
+        (omega (arith, b.second_gains, stays y (row_in_range rows y _ b.acceptable.returned) sy)),
   )
 
 -- with the lowest of each odd party left out, no pair of those who stay blocks

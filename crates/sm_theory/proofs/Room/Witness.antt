@@ -9,9 +9,9 @@ use Rattle.sm_lists.proofs.Counting.{lt_or_le}
 use Rattle.sm_theory.specs.Rooms.{AreRoomLists, IsAcceptable, mate_of, place_of_mate, IsRoomStable}
 use Rattle.sm_theory.specs.Partitions.{successor_in, predecessor_in, after, party_place, IsStablePartition, IsLowestOfOdd}
 use Rattle.sm_theory.specs.WitnessesRooms.{odd_party_rows, odd_party_next, odd_party_rest, OddParty, even_party_rows, even_party_next, even_party_mates, EvenParty}
-use Rattle.sm_theory.proofs.Room.Bridge.{listed_in_range}
 use Rattle.sm_theory.proofs.Net.Tests.{and_parts, or_parts}
 use Rattle.sm_theory.proofs.Tests.Pairs.{all_below, passes, not_true, is_at, is_at_pass}
+use Rattle.sm_lists.proofs.RowLemmas.{row_in_range}
 
 -- lists
 abbrev rows_test : List (List ℕ) → Bool
@@ -25,7 +25,7 @@ rows_pass rows e = record {
   where
     test : (x j : ℕ) → j < length (row rows x) → (nat_lt (entry rows x j) (length rows) ≡ true) × (all_below j (λ i. not (eqb (entry rows x i) (entry rows x j))) ≡ true)
     test x j h = and_parts _ _ (passes (length (row rows x)) (λ j. nat_lt (entry rows x j) (length rows) && all_below j (λ i. not (eqb (entry rows x i) (entry rows x j))))
-        (passes (length rows) (λ x. all_below (length (row rows x)) (λ j. nat_lt (entry rows x j) (length rows) && all_below j (λ i. not (eqb (entry rows x i) (entry rows x j))))) e x (listed_in_range rows x j h)) j h)
+        (passes (length rows) (λ x. all_below (length (row rows x)) (λ j. nat_lt (entry rows x j) (length rows) && all_below j (λ i. not (eqb (entry rows x i) (entry rows x j))))) e x (row_in_range rows x j h)) j h)
 
 -- acceptable pairs
 abbrev acceptable_test : List (List ℕ) → ℕ → ℕ → Bool
@@ -45,8 +45,8 @@ unblocked_pass : (rows : List (List ℕ)) (stands : ℕ → ℕ) → unblocked_t
 unblocked_pass rows stands e x y h a b =
     not_true (not (eqb x y) && (nat_lt (place_of rows x y) (stands x) && nat_lt (place_of rows y x) (stands y)))
     (passes (length rows) (λ y. not (not (eqb x y) && (nat_lt (place_of rows x y) (stands x) && nat_lt (place_of rows y x) (stands y))))
-    (passes (length rows) (λ x. all_below (length rows) (λ y. not (not (eqb x y) && (nat_lt (place_of rows x y) (stands x) && nat_lt (place_of rows y x) (stands y))))) e x (listed_in_range rows x _ h.listed))
-    y (listed_in_range rows y _ h.returned))
+    (passes (length rows) (λ x. all_below (length rows) (λ y. not (not (eqb x y) && (nat_lt (place_of rows x y) (stands x) && nat_lt (place_of rows y x) (stands y))))) e x (row_in_range rows x _ h.listed))
+    y (row_in_range rows y _ h.returned))
     (and_from _ _ (not_from_false _ (ne_eqb x y h.apart)) (and_from _ _ (lt-ltb _ _ a) (lt-ltb _ _ b)))
 
 -- partitions

@@ -6,8 +6,8 @@ use Rattle.sm_theory.specs.Values.{rotations_of}
 use Rattle.sm_rotations.specs.declared.order.ChainWithNeeds.{ChainWithNeeds}
 use Rattle.sm_rotations.proofs.CountLemmas.{few_rotations}
 use Rattle.sm_answer_rotations.specs.Found.{AreRotationsOf}
-use Rattle.sm_answer_rotations.proofs.RotationLemmas.{rotations_long}
 use Rattle.sm_answer_rotations.proofs.basis.find_rotations.Goals as goal
+use Rattle.sm_rotations.proofs.NeedsLemmas.{as_many}
 
 pub returns : goal.returns
 returns c =
@@ -19,5 +19,5 @@ returns c =
       made = e.made;
       printed = subst (λ (m : Places). IsPrintedChain c.market-market.result.now m rotations) (sym e.first) e.chain;
       needs = e.needs;
-      few = let few = few_rotations c.proposers.ensures.market c.proposers.ensures.limits e.chain.chain in omega (arith, few, rotations_long found.chain.rotations.items);
+      few = let few = few_rotations c.proposers.ensures.market c.proposers.ensures.limits e.chain.chain in omega (arith, few, as_many found.chain.rotations.items);
     })

@@ -1,6 +1,6 @@
 use Rattle.std.proofs.Common.{◌<◌, sym, length}
-use Rattle.sm_answer_rotations.proofs.RotationLemmas.{pairs_read}
 use Rattle.sm_answer_rotations.proofs.rotation_lines.rotation_line.Goals as goal
+use Rattle.sm_rotations.proofs.NeedsLemmas.{pairs_read}
 
 pub seated_pairs-requires : goal.seated_pairs-requires
 seated_pairs-requires c =

@@ -12,8 +12,8 @@ use Rattle.sm_reader.specs.Judging.{weight_in, second_in}
 use Rattle.sm_reader.specs.Draft.{weights_in}
 use Rattle.sm_reader.specs.declared.draft.Weights.{Weights}
 use Rattle.sm_reader.proofs.PairLemmas.{weighed_among, weight_fault_is, given_is}
-use Rattle.sm_reader.proofs.ResultLemmas.{none_if}
 use Rattle.sm_reader.proofs.judging.add_weight.Goals as goal
+use Rattle.sm_agents.proofs.SecondLemmas.{none_of}
 
 pub returns-then-is_some-clause-fault : goal.returns-then-is_some-clause-fault
 returns-then-is_some-clause-fault c =
@@ -41,7 +41,7 @@ returns-clause-put c =
     let spelled_out = c.in-Some.ensures in
     let numbers : (is_none (weight_in run) || is_none (second_in further)) ≡ false = rw (spelled_out.weight, spelled_out.second) refl in
     let absent = sym c.is_some.ensures ∙ c.if-is_some.false in
-    let none = sym c.in_ok-insert.ensures.old ∙ none_if c.in_ok-insert.field-0 absent in
+    let none = sym c.in_ok-insert.ensures.old ∙ none_of c.in_ok-insert.field-0 absent in
     let met : list_any (is_given_to p r) (weights_in d) ≡ false =
     sym (weighed_among p r d.weights.entries)
     ∙ ap (λ (es : List ((TextKey × TextKey) × Weights)). is_some (lookup (λ (k : TextKey × TextKey). bytes_eq p (spelled k.0) && bytes_eq r (spelled k.1)) es)) (sym c.in_ok-make_ready.ensures)

@@ -10,8 +10,8 @@ use Rattle.sm_keys.specs.declared.text_key.TextKey.{TextKey}
 use Rattle.sm_reader.specs.Draft.{masters_declared}
 use Rattle.sm_reader.specs.declared.draft.MasterList.{MasterList}
 use Rattle.sm_reader.proofs.MasterLemmas.{declared_among, fits_within}
-use Rattle.sm_reader.proofs.ResultLemmas.{none_if}
 use Rattle.sm_reader.proofs.masters.put_master.Goals as goal
+use Rattle.sm_agents.proofs.SecondLemmas.{none_of}
 
 pub returns : goal.returns
 returns c =
@@ -23,7 +23,7 @@ returns c =
     let list : MasterList = record { start = c.len-start.result; stop = c.len.result } in
     let right = fits_within (masters_declared d) name entries d.entries c.requires.faultless in
     let long : length entries ≡ length c.args.master.entries.now = length-map c.args.master.entries.now (λ (x : Bor (List ℕ)). x.now) in
-    let none = none_if (lookup (λ (k : TextKey). bytes_eq name (spelled k)) mid.entries)
+    let none = none_of (lookup (λ (k : TextKey). bytes_eq name (spelled k)) mid.entries)
     (ap (λ (es : List (TextKey × MasterList)). is_some (lookup (λ (k : TextKey). bytes_eq name (spelled k)) es)) c.in_ok-make_ready.ensures
     ∙ declared_among (texts_of d.on_masters.items) name d.masters.entries ∙ right.0) in
     record {
