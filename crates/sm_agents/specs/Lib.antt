@@ -4,6 +4,8 @@ pub mod Sound
 pub mod Faults
 pub mod Checks
 pub mod Named
-pub mod Names
+pub mod NameKeys
+pub mod NameTables
 pub mod Nonzero
+pub mod Order
 pub mod Spaced
