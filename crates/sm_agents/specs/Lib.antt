@@ -1,3 +1,4 @@
+pub mod Kinds
 pub mod Written
 pub mod Vectors
 pub mod Sound

@@ -23,7 +23,8 @@ use Rattle.sm_report.proofs.InverseLemmas.{by_answer}
 use Rattle.sm_report.proofs.FreeLines.{name_plain, number_plain, signed_plain, both_plain}
 use Rattle.sm_printed.specs.Names.{name_of, said_agent, said_pair, said_weight, said_of}
 use Rattle.sm_agents.specs.Nonzero.{is_zero}
-use Rattle.sm_printed.specs.Printed.{format_of, kind_word, second_text, order_lines, header_line, list_text, capacity_text, proposer_line, reviewer_line, pair_text, weight_line, force_line, forbid_line, item_lines, agent_lines, lines_of}
+use Rattle.sm_printed.specs.Printed.{format_of, second_text, order_lines, header_line, list_text, capacity_text, proposer_line, reviewer_line, pair_text, weight_line, force_line, forbid_line, item_lines, agent_lines, lines_of}
+use Rattle.sm_agents.specs.Kinds.{kind_name}
 
 -- a text that stands for itself there
 abbrev pub IsPlain : List ℕ → Type 0
@@ -54,7 +55,7 @@ end_plain : IsPlain (codes "end")
 unfolding is_plain_byte
 end_plain = refl
 
-kind_plain : (kind : Kind) → IsPlain (kind_word kind)
+kind_plain : (kind : Kind) → IsPlain (kind_name kind)
 unfolding is_plain_byte
 kind_plain Marriage = refl
 kind_plain Hospitals = refl
@@ -71,7 +72,7 @@ one_or_two false = omega arith
 header_plain : (said : Said) (kind : Kind) → IsPlain (header_line (format_of said) kind)
 header_plain said kind =
     let small = one_or_two (is_some said.order || list_any (λ (x : SaidWeight). not (is_zero x.second)) said.weights) in
-    both_plain (codes "stable " ++ decimal (format_of said) ++ codes " ") (kind_word kind)
+    both_plain (codes "stable " ++ decimal (format_of said) ++ codes " ") (kind_name kind)
     (both_plain (codes "stable " ++ decimal (format_of said)) (codes " ") (both_plain (codes "stable ") (decimal (format_of said)) head_plain.0 (number_plain (format_of said) (omega (arith, small)))) space_plain)
     (kind_plain kind)
 

@@ -3,6 +3,7 @@
 use Rattle.std.specs.Prelude.{ℕ, ◌||◌, not, if◌then◌else◌, List, [], ◌∷◌, ◌++◌, map, Option, Some, None, is_some, codes, decimal, ℤ}
 use Rattle.std.specs.List.{list_any}
 use Rattle.std.specs.Fmt.{signed_decimal}
+use Rattle.sm_agents.specs.Kinds.{kind_name}
 use Rattle.sm_agents.specs.Named.{SaidAgent, SaidPair, SaidWeight, SaidOrder, Said}
 use Rattle.sm_agents.specs.declared.kinds.Kind.{Kind}
 use Rattle.sm_agents.specs.declared.kinds.Kind.TheVariants.{Marriage, Hospitals, Roommates}
@@ -16,15 +17,9 @@ use Rattle.sm_printed.specs.Names.{said_of}
 abbrev pub format_of : Said → ℕ
 format_of said = if is_some said.order || list_any (λ (x : SaidWeight). not (is_zero x.second)) said.weights then 2 else 1
 
--- the word of each kind
-abbrev pub kind_word : Kind → List ℕ
-kind_word Marriage = codes "marriage"
-kind_word Hospitals = codes "hospitals"
-kind_word Roommates = codes "roommates"
-
 -- the header of a format and a kind
 abbrev pub header_line : (format : ℕ) → Kind → List ℕ
-header_line format kind = codes "stable " ++ decimal format ++ codes " " ++ kind_word kind
+header_line format kind = codes "stable " ++ decimal format ++ codes " " ++ kind_name kind
 
 -- `:` and the names on a list, each behind a space
 abbrev pub list_text : List (List ℕ) → List ℕ

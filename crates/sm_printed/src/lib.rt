@@ -16,4 +16,4 @@ pub mod witnesses;
 
 pub use formats::has_own_order;
 pub use giving::{InstanceLines, instance_lines};
-pub use printing::put_instance_line;
+pub use printing::{put_header, put_instance_line};

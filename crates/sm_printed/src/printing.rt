@@ -7,7 +7,7 @@ ghost use Rattle.sm_text.specs.Lines.{LF};
 ghost use Rattle.sm_instance.specs.Inputs.{left_of, right_of};
 ghost use Rattle.sm_report.specs.Putting.{PutsText};
 ghost use Rattle.sm_printed.specs.Names.{said_of, said_pair, said_weight};
-ghost use Rattle.sm_printed.specs.Printed.{header_line, kind_word, pair_text, second_text, weight_line, lines_of};
+ghost use Rattle.sm_printed.specs.Printed.{header_line, pair_text, second_text, weight_line, lines_of};
 ghost use Rattle.sm_printed.specs.Lines.{line_text, IsPair, NamesAgents};
 ghost use Rattle.sm_printed.specs.Putting.{PutsIfAny};
 
@@ -86,25 +86,18 @@ fn put_line(into: &mut LineWriter, input: &Input, line: InstanceLine) -> Result<
     }
 }
 
-/// Puts the header.
-fn put_header(into: &mut LineWriter, format: u32, kind: Kind) -> Result<(), AllocError>
+/// Puts the header of a format and a kind behind what a writer holds. Takes constant time, and no memory but what the writer needs.
+///
+/// # Errors
+///
+/// `AllocError` where memory ran out, and only then. The writer then holds what it held and a front of the header.
+pub fn put_header(into: &mut LineWriter, format: u32, kind: Kind) -> Result<(), AllocError>
     ensures { PutsText into.old into.new (header_line format kind) result }
 {
     into.put_bytes(b"stable ")?;
     into.put_number(u64::from(format))?;
     into.put_bytes(b" ")?;
-    into.put_bytes(kind_word(kind))
-}
-
-/// The word of a kind.
-fn kind_word(kind: Kind) -> &'static [u8]
-    ensures { result.now ≡ kind_word kind }
-{
-    match kind {
-        Kind::Marriage => b"marriage",
-        Kind::Hospitals => b"hospitals",
-        Kind::Roommates => b"roommates",
-    }
+    into.put_bytes(kind.name().as_bytes())
 }
 
 /// Puts a pair and its weights.
