@@ -1,8 +1,8 @@
 use Rattle.std.proofs.Common.{ℕ, List, ◌++◌, ap, ◌∙◌, refl}
 use Rattle.std.proofs.lemmas.Result.{err_from_is_err_and}
 use Rattle.sm_json.specs.Wrapping.{wrapped}
-use Rattle.sm_wrapped.proofs.ArrayLemmas.{wrapped_front, wrapped_whole, wrapped_unclosed, wrapped_part, one_more_wrapped}
-use Rattle.sm_wrapped.proofs.writing.write_wrapped.Goals as goal
+use Rattle.sm_json.proofs.ArrayLemmas.{wrapped_front, wrapped_whole, wrapped_unclosed, wrapped_part, one_more_wrapped}
+use Rattle.sm_json.proofs.writing.write_wrapped.Goals as goal
 
 pub returns-in_err-put_next-clause-wrote : goal.returns-in_err-put_next-clause-wrote
 returns-in_err-put_next-clause-wrote g c =

@@ -1,5 +1,5 @@
-use Rattle.sm_wrapped.proofs.ArrayLemmas.{IsWrappedSoFar}
-use Rattle.sm_wrapped.proofs.writing.write_wrapped.Given as goal
+use Rattle.sm_json.proofs.ArrayLemmas.{IsWrappedSoFar}
+use Rattle.sm_json.proofs.writing.write_wrapped.Given as goal
 
 -- some lines are written, and the others are left
 abbrev pub invariant-lines : goal.invariant-lines

@@ -8,7 +8,7 @@ use Rattle.sm_text.specs.Lines.{LF}
 use Rattle.sm_text.specs.Plain.{is_plain}
 use Rattle.sm_answer.specs.Giving.{HasRest, PutLine}
 use Rattle.sm_json.specs.Wrapping.{wrapped, wrapped_from, json_of_lines}
-use Rattle.sm_wrapped.specs.Writing.{WroteArray, WroteArrayFront}
+use Rattle.sm_json.specs.Writing.{WroteArray, WroteArrayFront}
 
 -- whether the line behind some lines is the first of all, where the first of them may be it
 abbrev first_behind : Bool → List (List ℕ) → Bool

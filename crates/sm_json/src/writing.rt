@@ -2,11 +2,11 @@
 
 ghost use Rattle.std.specs.Prelude.{◌≤◌};
 ghost use Rattle.sm_answer.specs.Giving.{HasRest};
-ghost use Rattle.sm_wrapped.specs.Writing.{WritesArray};
+ghost use Rattle.sm_json.specs.Writing.{WritesArray};
 
+use crate::wrapping::wrap;
 use sm_answer::{Lines, Unwritten};
 use sm_io::{Put, Sink};
-use sm_json::wrap;
 use sm_text::LineWriter;
 use std::alloc::Global;
 
