@@ -26,9 +26,9 @@ use Rattle.sm_agents.specs.declared.kinds.Kind.{Kind}
 use Rattle.sm_json.specs.Parts.{has_capacities}
 use Rattle.sm_agents.specs.Nonzero.{is_zero}
 use Rattle.sm_agents.proofs.NonzeroLemmas.{zero_is}
-use Rattle.sm_printed.proofs.ItemLemmas.{weight_there, force_there, forbid_there}
+use Rattle.sm_instance_lines.proofs.ItemLemmas.{weight_there, force_there, forbid_there}
 use Rattle.sm_instance.specs.declared.inputs.Input.TheVariants.{Two}
-use Rattle.sm_printed.specs.Names.{name_of, said_agent, said_pair, said_weight, said_of}
+use Rattle.sm_instance_lines.specs.Names.{name_of, said_agent, said_pair, said_weight, said_of}
 use Rattle.sm_json.specs.Making.{array_of, agent_json, pair_json, weight_json, with_order, two_json, said_by, put_if, put_order, sides_put, conditions_put, unless_empty, AreNamed, AreListed, AreAllListed}
 use Rattle.sm_agents.specs.Kinds.{kind_name}
 

@@ -10,7 +10,7 @@ use Rattle.sm_agents.specs.Named.{SaidAgent, SaidPair, SaidWeight, SaidOrder, Sa
 use Rattle.sm_instance.specs.declared.inputs.Input.{Input}
 use Rattle.sm_agents.specs.declared.kinds.Kind.{Kind}
 use Rattle.sm_agents.specs.declared.kinds.Kind.TheVariants.{Marriage, Hospitals, Roommates}
-use Rattle.sm_printed.specs.Names.{name_of, said_agent, said_pair, said_weight, said_of}
+use Rattle.sm_instance_lines.specs.Names.{name_of, said_agent, said_pair, said_weight, said_of}
 use Rattle.sm_agents.specs.Nonzero.{is_zero}
 use Rattle.sm_json.specs.Parts.{has_capacities}
 use Rattle.sm_agents.specs.Kinds.{kind_name}

@@ -16,7 +16,7 @@ use crate::looking::{Owner, has_only, kind_at};
 use crate::weights::{is_seconded, put_order, put_pairs, put_weights};
 use serde_json::Value;
 use sm_instance::Kind;
-use sm_printed::put_header;
+use sm_instance_lines::put_header;
 use sm_text::LineWriter;
 use std::alloc::Global;
 

@@ -14,7 +14,7 @@ use Rattle.sm_agents.specs.declared.kinds.Kind.TheVariants.{Marriage, Hospitals,
 use Rattle.sm_report.specs.Fields.{spaced}
 use Rattle.sm_report.proofs.DecimalLemmas.{first_true, second_true, digits_of_decimal}
 use Rattle.sm_report.proofs.FreeLemmas.{is_free, free_of, free-append}
-use Rattle.sm_printed.specs.Printed.{header_line, list_text, capacity_text}
+use Rattle.sm_instance_lines.specs.Printed.{header_line, list_text, capacity_text}
 use Rattle.sm_agents.specs.Kinds.{kind_name}
 use Rattle.sm_law_reprint.proofs.CutLemmas.{IsRun, name_is_run, tokens-run, mark_cut, tokens-blank, no_run, tokens-spaced}
 

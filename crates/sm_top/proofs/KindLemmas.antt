@@ -35,7 +35,7 @@ use Rattle.sm_top.specs.Accepting.{too_many_in, too_many_seats, first_refusal, j
 use Rattle.sm_tally.specs.Fold.{Shown}
 use Rattle.sm_words.specs.Words.{usual_limit}
 use Rattle.sm_answer_survey.specs.SurveyAnswer.{IsSurveyAnswer}
-use Rattle.sm_printed.specs.Printed.{lines_of}
+use Rattle.sm_instance_lines.specs.Printed.{lines_of}
 use Rattle.sm_top.specs.Outcome.{IsWeighed, IsMiddle, IsSummary, IsMade, IsSolved, IsRegretted, IsAnswerOver, IsAnswer, IsRefused, not_accepted}
 use Rattle.sm_top.specs.Wrote.{Wrote, With}
 use Rattle.sm_top.proofs.WritingLemmas.{wrote_for, wrote_shown}

@@ -11,7 +11,7 @@ use Rattle.sm_instance.specs.declared.inputs.Input.TheVariants.{Two, Room}
 use Rattle.sm_report.specs.Texts.{left_name, right_name}
 use Rattle.sm_report.proofs.DecimalLemmas.{first_true, second_true}
 use Rattle.sm_report.proofs.FreeLines.{number_plain, both_plain}
-use Rattle.sm_printed.proofs.PlainLemmas.{name_of_plain}
+use Rattle.sm_instance_lines.proofs.PlainLemmas.{name_of_plain}
 use Rattle.sm_answer.specs.Giving.{PutsNext}
 use Rattle.sm_answer_given.specs.declared.faults.Which.{Which}
 use Rattle.sm_answer_given.specs.declared.faults.Which.TheVariants.{Left, Right}
