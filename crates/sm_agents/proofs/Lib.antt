@@ -2,6 +2,8 @@ pub mod ListLemmas
 pub mod AgentLemmas
 pub mod ItemLemmas
 pub mod FaultLemmas
+pub mod NameLemmas
 pub mod NonzeroLemmas
+pub mod OrderLemmas
 pub mod SecondLemmas
 pub mod SpacedLemmas

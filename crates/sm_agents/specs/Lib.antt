@@ -1,9 +1,12 @@
+pub mod Kinds
 pub mod Written
 pub mod Vectors
 pub mod Sound
 pub mod Faults
 pub mod Checks
 pub mod Named
-pub mod Names
+pub mod NameKeys
+pub mod NameTables
 pub mod Nonzero
+pub mod Order
 pub mod Spaced

@@ -13,9 +13,9 @@ ghost use Rattle.sm_agents.specs.Vectors.{agents_of, written_in};
 use crate::agents::{Agent, capacity_at, list_at, name_at};
 use crate::faults::InstanceFault;
 use crate::kinds::{Kind, Side};
+use crate::names::Names;
 use crate::pairs::Pairs;
 use crate::parts::Parts;
-use sm_names::Names;
 use sm_text::{Digest, MOST_AGENTS, MOST_CAPACITY, MOST_ENTRIES, MOST_WEIGHT, TextHash, is_name};
 use std::alloc::Global;
 

@@ -17,10 +17,10 @@ use Rattle.sm_report.specs.Heads.{HeadData}
 use Rattle.sm_report.specs.Lines.{LineData}
 use Rattle.sm_report.specs.Sound.{IsLineOf}
 use Rattle.sm_answer.specs.MatchingLines.{pair_data, matching_line}
-use Rattle.sm_pairs.specs.Held.{places_in}
+use Rattle.sm_holding.specs.Held.{places_in}
 use Rattle.sm_answer_given.specs.Given.{AreStableGiven}
-use Rattle.sm_pairs.specs.Chosen.{chosen_places, head_for}
-use Rattle.sm_pairs.proofs.ChoiceLemmas.{chosen_assigned}
+use Rattle.sm_holding.specs.Chosen.{chosen_places, head_for}
+use Rattle.sm_holding.proofs.ChoiceLemmas.{chosen_assigned}
 use Rattle.sm_answer_given.specs.Chosen.{pair_lines, chosen_lines, IsChosenAnswer}
 use Rattle.sm_answer_given.specs.declared.given.Given.{Given}
 use Rattle.sm_answer.specs.declared.matching_lines.PairWord.{PairWord}

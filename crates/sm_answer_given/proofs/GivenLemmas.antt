@@ -4,7 +4,7 @@ use Rattle.sm_agents.specs.Written.{Written}
 use Rattle.sm_instance.specs.Stable.{IsStable}
 use Rattle.sm_instance.specs.declared.inputs.Input.TheVariants.{Two}
 use Rattle.sm_answer_given.specs.GivenText.{AreGiven}
-use Rattle.sm_pairs.specs.Held.{places_in, CanHold}
+use Rattle.sm_holding.specs.Held.{places_in, CanHold}
 use Rattle.sm_answer_given.specs.Refusing.{IsHoldFault, IsGivenFault, IsBlocking, IsUnstable}
 use Rattle.sm_answer_given.specs.declared.faults.Which.TheVariants.{Left, Right}
 use Rattle.sm_answer_given.specs.declared.faults.GivenFault.{GivenFault}

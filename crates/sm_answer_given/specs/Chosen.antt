@@ -5,8 +5,8 @@ use Rattle.sm_agents.specs.Written.{Written}
 use Rattle.sm_instance.specs.declared.inputs.Input.TheVariants.{Two}
 use Rattle.sm_theory.specs.declared.choice.Choice.{Choice}
 use Rattle.sm_report.specs.Lines.{LineData}
-use Rattle.sm_pairs.specs.Chosen.{chosen_places, head_for}
-use Rattle.sm_pairs.specs.Held.{places_in, GiveStable}
+use Rattle.sm_holding.specs.Chosen.{chosen_places, head_for}
+use Rattle.sm_holding.specs.Held.{places_in, GiveStable}
 use Rattle.sm_answer_given.specs.GivenText.{AreGiven}
 use Rattle.sm_answer.specs.MatchingLines.{matching_line}
 use Rattle.sm_answer.specs.declared.matching_lines.PairWord.{PairWord}

@@ -3,7 +3,7 @@ use Rattle.std.specs.Prelude.{◌≡◌, ℕ, List}
 use Rattle.sm_agents.specs.Written.{Written}
 use Rattle.sm_instance.specs.declared.inputs.Input.TheVariants.{Two}
 use Rattle.sm_answer_given.specs.GivenText.{AreGiven}
-use Rattle.sm_pairs.specs.Held.{places_in, GiveStable}
+use Rattle.sm_holding.specs.Held.{places_in, GiveStable}
 use Rattle.sm_answer_given.specs.declared.given.Given.{Given}
 
 -- the texts are those of two stable matchings, and these are they

@@ -4,7 +4,7 @@ use Rattle.sm_agents.specs.Written.{Written}
 use Rattle.sm_instance.specs.Stable.{IsStable, IsFirstBlocking}
 use Rattle.sm_instance.specs.declared.inputs.Input.TheVariants.{Two}
 use Rattle.sm_answer_given.specs.GivenText.{AreGiven, IsBadGivenAt}
-use Rattle.sm_pairs.specs.Held.{places_in, IsFirstBreach, CanHold}
+use Rattle.sm_holding.specs.Held.{places_in, IsFirstBreach, CanHold}
 use Rattle.sm_lists.specs.Pairs.{pair_at}
 use Rattle.sm_answer_given.specs.declared.faults.Which.{Which}
 use Rattle.sm_answer_given.specs.declared.faults.Which.TheVariants.{Left, Right}

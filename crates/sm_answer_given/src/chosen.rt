@@ -6,7 +6,7 @@ ghost use Rattle.sm_answer.specs.Printing.{IsShown};
 ghost use Rattle.sm_instance.specs.Matching.{IsAssignment};
 ghost use Rattle.sm_instance.specs.declared.inputs.Input.TheVariants.{Two};
 ghost use Rattle.sm_answer_given.specs.Given.{AreStableGiven};
-ghost use Rattle.sm_pairs.specs.Chosen.{chosen_places, head_for};
+ghost use Rattle.sm_holding.specs.Chosen.{chosen_places, head_for};
 ghost use Rattle.sm_answer_given.specs.Chosen.{IsChosenAnswer};
 ghost use Rattle.sm_report.specs.Heads.{head_of};
 

@@ -4,15 +4,15 @@ ghost use Rattle.std.specs.Prelude.{◌≡◌, ◌+◌, ◌<◌, ◌^◌, length
 ghost use Rattle.sm_text.specs.Lines.{lines, texts_from};
 ghost use Rattle.sm_instance.specs.Stable.{IsStable};
 ghost use Rattle.sm_instance.specs.declared.inputs.Input.TheVariants.{Two};
-ghost use Rattle.sm_pairs.specs.Holding.{IsHolding};
+ghost use Rattle.sm_holding.specs.Holding.{IsHolding};
 ghost use Rattle.sm_answer_given.specs.Given.{AreStableGiven};
 ghost use Rattle.sm_answer_given.specs.Refusing.{IsGivenFault, IsBlocking};
 
 use crate::faults::{Flaw, GivenFault, Unstable, Which};
 use crate::holding::hold;
 use crate::reading::read_pairs;
+use sm_holding::Holding;
 use sm_instance::{Assignment, Input, Instance};
-use sm_pairs::Holding;
 use std::alloc::Global;
 
 /// Two stable matchings of an instance.

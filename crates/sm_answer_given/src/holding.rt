@@ -2,14 +2,14 @@
 
 ghost use Rattle.std.specs.Prelude.{◌≡◌, ◌+◌, ◌<◌, ◌^◌, length, IfOk, IfErr, OnOk};
 ghost use Rattle.sm_instance.specs.declared.inputs.Input.TheVariants.{Two};
-ghost use Rattle.sm_pairs.specs.Held.{places_in, CanHold};
-ghost use Rattle.sm_pairs.specs.Holding.{IsHolding};
+ghost use Rattle.sm_holding.specs.Held.{places_in, CanHold};
+ghost use Rattle.sm_holding.specs.Holding.{IsHolding};
 ghost use Rattle.sm_answer_given.specs.GivenText.{ArePairs};
 ghost use Rattle.sm_answer_given.specs.Refusing.{IsHoldFault};
 
 use crate::faults::{Flaw, GivenFault, Unstable, Which};
+use sm_holding::Holding;
 use sm_instance::Instance;
-use sm_pairs::Holding;
 use std::alloc::Global;
 
 /// The matching that pairs make, of which the first stands on this line, where all can be held, with the loads of the reviewers.

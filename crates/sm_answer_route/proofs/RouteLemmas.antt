@@ -30,7 +30,7 @@ use Rattle.sm_seats.specs.SeatMarket.{seat_market}
 use Rattle.sm_theory.specs.declared.step.Step.{Step}
 use Rattle.sm_seats.specs.Seating.{Seating, seating_of}
 use Rattle.sm_seats.specs.Correspondence.{IsSeating}
-use Rattle.sm_pairs.specs.Held.{places_in}
+use Rattle.sm_holding.specs.Held.{places_in}
 use Rattle.sm_answer_given.specs.Given.{AreStableGiven}
 use Rattle.sm_answer_given.specs.Chosen.{pair_lines}
 use Rattle.sm_answer_given.specs.declared.given.Given.{Given}

@@ -15,7 +15,7 @@ use Rattle.sm_theory.specs.declared.step.Step.{Step}
 use Rattle.sm_theory.specs.declared.step.Step.TheVariants.{Back, Forth}
 use Rattle.sm_seats.specs.SeatMarket.{seat_market}
 use Rattle.sm_seats.specs.Seating.{seating_of, written_of}
-use Rattle.sm_pairs.specs.Held.{places_in, GiveStable}
+use Rattle.sm_holding.specs.Held.{places_in, GiveStable}
 use Rattle.sm_answer_given.specs.GivenText.{AreGiven}
 use Rattle.sm_answer_given.specs.Chosen.{pair_lines}
 use Rattle.sm_answer_rotations.specs.RotationLines.{ShownRotations, first_seat_line, rotation_lines, shown_of}

@@ -13,9 +13,9 @@ use Rattle.sm_instance.proofs.CrossLemmas.{row-lists_of}
 use Rattle.sm_market.specs.Lists.{place_of as place_in_rows}
 use Rattle.sm_theory.specs.declared.choice.Choice.{Choice}
 use Rattle.sm_theory.specs.declared.choice.Choice.TheVariants.{Better, Worse}
-use Rattle.sm_pairs.specs.Held.{partner_in, places_in, CanFollow}
-use Rattle.sm_pairs.specs.Chosen.{chosen_places, head_for}
-use Rattle.sm_pairs.proofs.ChoiceLemmas.{chosen_assigned}
+use Rattle.sm_holding.specs.Held.{partner_in, places_in, CanFollow}
+use Rattle.sm_holding.specs.Chosen.{chosen_places, head_for}
+use Rattle.sm_holding.proofs.ChoiceLemmas.{chosen_assigned}
 use Rattle.sm_report.specs.Lines.{LineData}
 use Rattle.sm_report.specs.declared.keywords.Keyword.TheVariants as keyword
 use Rattle.sm_check_clauses.specs.declared.verdicts.Reason.TheVariants as reason

@@ -13,7 +13,7 @@ use Rattle.sm_agents.specs.Written.{AgentData, lists_of}
 use Rattle.sm_instance.specs.declared.inputs.Input.TheVariants.{Room}
 use Rattle.sm_market.specs.Lists.{place_of}
 use Rattle.sm_theory.specs.Rooms.{IsAcceptable, IsRoomStable, mate_of}
-use Rattle.sm_pairs.specs.Held.{partner_in}
+use Rattle.sm_holding.specs.Held.{partner_in}
 use Rattle.sm_lists.specs.Pairs.{pair_at}
 use Rattle.sm_report.specs.Lines.{LineData}
 use Rattle.sm_check_clauses.specs.declared.verdicts.Reason.TheVariants as reason

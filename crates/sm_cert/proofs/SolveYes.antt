@@ -13,8 +13,8 @@ use Rattle.sm_instance.specs.Stable.{IsStable, IsBestOf}
 use Rattle.sm_instance.specs.Allowed.{IsAllowed}
 use Rattle.sm_instance.specs.Ranks.{regret_of}
 use Rattle.sm_instance.proofs.CrossLemmas.{row-lists_of}
-use Rattle.sm_pairs.specs.Held.{partner_in, paired_place, places_in, CanFollow}
-use Rattle.sm_pairs.proofs.HoldingLemmas.{held_place}
+use Rattle.sm_holding.specs.Held.{partner_in, paired_place, places_in, CanFollow}
+use Rattle.sm_holding.proofs.HoldingLemmas.{held_place}
 use Rattle.sm_report.specs.Heads.{HeadData}
 use Rattle.sm_report.specs.Lines.{LineData}
 use Rattle.sm_check_clauses.specs.declared.verdicts.Reason.TheVariants as reason

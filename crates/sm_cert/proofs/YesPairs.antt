@@ -13,9 +13,9 @@ use Rattle.sm_agents.specs.Written.{Written, lists_of, place_of as written_place
 use Rattle.sm_instance.proofs.CrossLemmas.{row-lists_of}
 use Rattle.sm_market.specs.Lists.{row, entry, place_of}
 use Rattle.sm_market.specs.Matching.{held}
-use Rattle.sm_pairs.specs.Held.{partner_in}
+use Rattle.sm_holding.specs.Held.{partner_in}
 use Rattle.sm_lists.specs.Pairs.{pair_at}
-use Rattle.sm_pairs.proofs.HoldingLemmas.{partner_in-push_same}
+use Rattle.sm_holding.proofs.HoldingLemmas.{partner_in-push_same}
 use Rattle.sm_cert.specs.Yes.{AreApart, ArePairsOf}
 use Rattle.sm_check_roommates.proofs.CoupleLemmas.{partner_in-append}
 

@@ -28,7 +28,7 @@ use Rattle.sm_seats.specs.SeatMarket.{seat_market}
 use Rattle.sm_seats.specs.Vectors.{IsAllowedRankVector}
 use Rattle.sm_seats.specs.Levels.{has_two_levels}
 use Rattle.sm_lists.specs.Pairs.{pair_at}
-use Rattle.sm_pairs.specs.Chosen.{chosen_places}
+use Rattle.sm_holding.specs.Chosen.{chosen_places}
 use Rattle.sm_report.specs.Heads.{HeadData}
 use Rattle.sm_report.specs.Lines.{LineData}
 use Rattle.sm_check_clauses.specs.declared.verdicts.Verdict.TheVariants as verdict

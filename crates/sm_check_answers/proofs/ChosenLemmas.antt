@@ -8,18 +8,18 @@ use Rattle.sm_instance.specs.Stable.{IsStable}
 use Rattle.sm_theory.specs.Choices.{chosen}
 use Rattle.sm_theory.specs.declared.choice.Choice.{Choice}
 use Rattle.sm_theory.specs.declared.choice.Choice.TheVariants.{Better, Worse}
-use Rattle.sm_pairs.specs.declared.holding.Holding.{Holding}
-use Rattle.sm_pairs.specs.Chosen.{chosen_places, head_for}
-use Rattle.sm_pairs.specs.Held.{places_in, CanFollow}
-use Rattle.sm_pairs.proofs.HoldingLemmas.{places_later}
-use Rattle.sm_pairs.proofs.ChoiceLemmas.{chosen_assigned, left_changed, right_changed}
+use Rattle.sm_holding.specs.declared.holding.Holding.{Holding}
+use Rattle.sm_holding.specs.Chosen.{chosen_places, head_for}
+use Rattle.sm_holding.specs.Held.{places_in, CanFollow}
+use Rattle.sm_holding.proofs.HoldingLemmas.{places_later}
+use Rattle.sm_holding.proofs.ChoiceLemmas.{chosen_assigned, left_changed, right_changed}
 use Rattle.sm_report.specs.Lines.{LineData, line_of}
 use Rattle.sm_report.specs.declared.lines.Line.{Line}
 use Rattle.sm_check_clauses.specs.declared.verdicts.Reason.{Reason}
 use Rattle.sm_check_clauses.specs.declared.verdicts.Reason.TheVariants as reason
 use Rattle.sm_check_clauses.specs.Judging.{TwoClauses}
 use Rattle.sm_check_clauses.specs.Pairs.{IsWanted, AreAllThere, ChosenHold}
-use Rattle.sm_pairs.specs.PairsKept.{ArePairsHeld, HasJoined}
+use Rattle.sm_holding.specs.PairsKept.{ArePairsHeld, HasJoined}
 use Rattle.sm_check_clauses.specs.Said.{pair_in, left_in, right_in, pairs_in, lefts_in, rights_in}
 use Rattle.sm_check_clauses.specs.Verdicts.{number_of_reason}
 use Rattle.sm_check_answers.specs.ChosenKept.{AreChosenKept}

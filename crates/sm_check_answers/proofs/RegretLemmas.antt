@@ -8,16 +8,16 @@ use Rattle.std.proofs.lemmas.Option.{unwrap_or-slice_get}
 use Rattle.std.proofs.lemmas.List.Elements.{filter_map-append}
 use Rattle.sm_agents.specs.Written.{Written}
 use Rattle.sm_report.specs.Lines.{LineData}
-use Rattle.sm_pairs.specs.declared.holding.Holding.{Holding}
+use Rattle.sm_holding.specs.declared.holding.Holding.{Holding}
 use Rattle.sm_check_clauses.specs.declared.verdicts.Reason.{Reason}
 use Rattle.sm_check_clauses.specs.declared.verdicts.Reason.TheVariants as reason
 use Rattle.sm_check_clauses.specs.Verdicts.{Finds}
 use Rattle.sm_check_clauses.specs.Said.{pair_in, pairs_in, regret_in, first_said}
-use Rattle.sm_pairs.specs.Held.{places_in, CanFollow}
+use Rattle.sm_holding.specs.Held.{places_in, CanFollow}
 use Rattle.sm_check_clauses.specs.Vectors.{RegretHolds, RegretClauses}
 use Rattle.sm_check_answers.specs.Regrets.{EndOfRegret, AreRegretsKept}
 use Rattle.sm_check_clauses.specs.Walking.{FindsOrKeeps}
-use Rattle.sm_pairs.specs.PairsKept.{ArePairsHeld}
+use Rattle.sm_holding.specs.PairsKept.{ArePairsHeld}
 use Rattle.sm_check_clauses.proofs.AnswerLemmas.{found_by, first_more}
 
 module _ (w : Written) (regret : ℕ) (pairs : List (ℕ × ℕ)) where

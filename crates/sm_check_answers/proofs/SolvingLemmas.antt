@@ -16,14 +16,14 @@ use Rattle.sm_seats.specs.Taken.{places_taken}
 use Rattle.sm_seats.specs.Correspondence.{IsSeating, IsSeatedAs}
 use Rattle.sm_seats.proofs.LawsProved.{seats_correspond, bests_correspond}
 use Rattle.sm_report.specs.Lines.{LineData}
-use Rattle.sm_pairs.specs.declared.holding.Holding.{Holding}
+use Rattle.sm_holding.specs.declared.holding.Holding.{Holding}
 use Rattle.sm_check_clauses.specs.declared.verdicts.Reason.{Reason}
 use Rattle.sm_check_clauses.specs.declared.verdicts.Reason.TheVariants as reason
 use Rattle.sm_check_clauses.specs.Said.{pair_in, pairs_in}
 use Rattle.sm_check_clauses.specs.Walking.{FindsOrKeeps}
-use Rattle.sm_pairs.specs.Held.{CanFollow}
+use Rattle.sm_holding.specs.Held.{CanFollow}
 use Rattle.sm_check_clauses.specs.Pairs.{SolveHolds}
-use Rattle.sm_pairs.specs.PairsKept.{ArePairsHeld}
+use Rattle.sm_holding.specs.PairsKept.{ArePairsHeld}
 use Rattle.sm_check_answers.specs.Solving.{IsSolveKept}
 
 module _ (w : Written) (side : Side) (pairs : List (ℕ × ℕ)) where

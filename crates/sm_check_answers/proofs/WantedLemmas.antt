@@ -9,11 +9,11 @@ use Rattle.sm_instance.specs.Matching.{held}
 use Rattle.sm_theory.specs.Choices.{chosen}
 use Rattle.sm_theory.specs.declared.choice.Choice.{Choice}
 use Rattle.sm_theory.specs.declared.choice.Choice.TheVariants.{Better, Worse}
-use Rattle.sm_pairs.specs.Held.{partner_in}
-use Rattle.sm_pairs.specs.Chosen.{chosen_places}
-use Rattle.sm_pairs.specs.declared.holding.Holding.{Holding}
-use Rattle.sm_pairs.proofs.HoldingLemmas.{partner_in-push_same, partner_in-push_other, no_places}
-use Rattle.sm_pairs.specs.PairsKept.{ArePairsHeld}
+use Rattle.sm_holding.specs.Held.{partner_in}
+use Rattle.sm_holding.specs.Chosen.{chosen_places}
+use Rattle.sm_holding.specs.declared.holding.Holding.{Holding}
+use Rattle.sm_holding.proofs.HoldingLemmas.{partner_in-push_same, partner_in-push_other, no_places}
+use Rattle.sm_holding.specs.PairsKept.{ArePairsHeld}
 use Rattle.sm_check_answers.specs.Stood.{AreStood}
 
 -- one more proposer stands

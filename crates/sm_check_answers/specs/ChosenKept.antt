@@ -3,9 +3,9 @@ use Rattle.std.specs.Prelude.{◌≡◌, ℕ, Bool, List, Option}
 use Rattle.sm_agents.specs.Written.{Written}
 use Rattle.sm_report.specs.Lines.{LineData}
 use Rattle.sm_theory.specs.declared.choice.Choice.{Choice}
-use Rattle.sm_pairs.specs.declared.holding.Holding.{Holding}
-use Rattle.sm_pairs.specs.Chosen.{chosen_places}
-use Rattle.sm_pairs.specs.PairsKept.{ArePairsHeld}
+use Rattle.sm_holding.specs.declared.holding.Holding.{Holding}
+use Rattle.sm_holding.specs.Chosen.{chosen_places}
+use Rattle.sm_holding.specs.PairsKept.{ArePairsHeld}
 use Rattle.sm_check_clauses.specs.Said.{pairs_in, lefts_in, rights_in}
 use Rattle.sm_check_answers.specs.Stood.{AreStood}
 

@@ -5,12 +5,12 @@ use Rattle.sm_agents.specs.Written.{Written}
 use Rattle.sm_instance.specs.Stable.{IsStable}
 use Rattle.sm_instance.specs.Allowed.{IsAllowed}
 use Rattle.sm_instance.specs.Ranks.{regret_of}
-use Rattle.sm_pairs.specs.declared.holding.Holding.{Holding}
+use Rattle.sm_holding.specs.declared.holding.Holding.{Holding}
 use Rattle.sm_report.specs.Lines.{LineData}
 use Rattle.sm_check_clauses.specs.declared.verdicts.Reason.{Reason}
 use Rattle.sm_check_clauses.specs.declared.verdicts.Reason.TheVariants as reason
 use Rattle.sm_check_clauses.specs.Said.{pairs_in, regret_in}
-use Rattle.sm_pairs.specs.PairsKept.{ArePairsHeld}
+use Rattle.sm_holding.specs.PairsKept.{ArePairsHeld}
 
 -- at the end, of the matching
 abbrev pub EndOfRegret : Written → (regret : ℕ) → List (Option ℕ) → Reason → Type 0

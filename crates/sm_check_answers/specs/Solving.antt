@@ -2,9 +2,9 @@
 use Rattle.std.specs.Prelude.{◌≡◌, List}
 use Rattle.sm_agents.specs.Written.{Written}
 use Rattle.sm_seats.specs.Seating.{Seating, seating_of}
-use Rattle.sm_pairs.specs.declared.holding.Holding.{Holding}
+use Rattle.sm_holding.specs.declared.holding.Holding.{Holding}
 use Rattle.sm_report.specs.Lines.{LineData}
-use Rattle.sm_pairs.specs.PairsKept.{ArePairsHeld}
+use Rattle.sm_holding.specs.PairsKept.{ArePairsHeld}
 use Rattle.sm_check_clauses.specs.Said.{pairs_in}
 
 -- the pairs so far, beside the seats of the instance

@@ -2,7 +2,7 @@
 use Rattle.std.specs.Prelude.{◌≡◌, ℕ, ◌<◌, ◌++◌, ◌∷◌, [], Bool, true, false, List, length, Option, slice_index_or}
 use Rattle.std.specs.Option.{is_some}
 use Rattle.sm_agents.specs.Written.{Written}
-use Rattle.sm_pairs.specs.Held.{partner_in}
+use Rattle.sm_holding.specs.Held.{partner_in}
 use Rattle.sm_check_clauses.specs.Pairs.{IsWanted}
 
 -- which proposers stand in pairs

@@ -3,7 +3,7 @@
 ghost use Rattle.std.specs.Prelude.{◌≡◌, ◌+◌, ◌<◌, ◌^◌, All, IfOk, length, map};
 ghost use Rattle.sm_instance.specs.Matching.{held};
 ghost use Rattle.sm_theory.specs.Choices.{chosen};
-ghost use Rattle.sm_pairs.specs.Chosen.{head_for};
+ghost use Rattle.sm_holding.specs.Chosen.{head_for};
 ghost use Rattle.sm_report.specs.Lines.{line_of};
 ghost use Rattle.sm_check_clauses.specs.Verdicts.{AtLine, IsVerdict};
 ghost use Rattle.sm_check_clauses.specs.Judges.{IsOwnLine};
@@ -12,8 +12,8 @@ ghost use Rattle.sm_check_clauses.specs.Judging.{answer, Clauses};
 use crate::pairs::{is_unblocked, joins};
 use crate::wanted::Stood;
 use sm_check_clauses::{Judge, Reason, Verdict, judge_lines};
+use sm_holding::Holding;
 use sm_instance::Instance;
-use sm_pairs::Holding;
 use sm_report::Line;
 use sm_theory::{Choice, chosen_place};
 use std::alloc::{AllocError, Global};
@@ -62,7 +62,7 @@ pub fn chosen_verdict(
 }
 
 impl<'a> Judge for ChosenJudge<'a> {
-    ghost use Rattle.sm_pairs.specs.Chosen.{head_for};
+    ghost use Rattle.sm_holding.specs.Chosen.{head_for};
     ghost use Rattle.sm_check_clauses.specs.Judging.{answer};
     ghost use Rattle.sm_check_answers.specs.ChosenKept.{AreChosenKept};
 

@@ -2,11 +2,11 @@
 
 ghost use Rattle.std.specs.Prelude.{ℕ, ◌<◌, ◌↔◌, List, length, IsTrue};
 ghost use Rattle.sm_instance.specs.Stable.{IsStable};
-ghost use Rattle.sm_pairs.specs.Holding.{IsHolding};
-ghost use Rattle.sm_pairs.specs.PairsKept.{ArePairsHeld, Joins};
+ghost use Rattle.sm_holding.specs.Holding.{IsHolding};
+ghost use Rattle.sm_holding.specs.PairsKept.{ArePairsHeld, Joins};
 
+use sm_holding::Holding;
 use sm_instance::Instance;
-use sm_pairs::Holding;
 
 /// Whether a pair may stand behind those that are held. It is held too then.
 pub(crate) fn joins(holding: &mut Holding, instance: &Instance, p: u32, r: u32) -> bool

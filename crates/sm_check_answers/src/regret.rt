@@ -2,7 +2,7 @@
 
 ghost use Rattle.std.specs.Prelude.{◌≡◌, ℕ, ◌+◌, ◌<◌, ◌^◌, ◌∷◌, ◌++◌, [], List, All, Option, None, unwrap_or, length, map, IfOk};
 ghost use Rattle.sm_instance.specs.declared.inputs.Input.TheVariants.{Two};
-ghost use Rattle.sm_pairs.specs.Holding.{IsHolding};
+ghost use Rattle.sm_holding.specs.Holding.{IsHolding};
 ghost use Rattle.sm_report.specs.Lines.{LineData, line_of};
 ghost use Rattle.sm_report.specs.Sound.{IsLineOf};
 ghost use Rattle.sm_check_clauses.specs.Verdicts.{AtLine, Finds, IsVerdict};
@@ -14,12 +14,12 @@ ghost use Rattle.sm_check_clauses.specs.Judging.{answer, Clauses};
 ghost use Rattle.sm_check_answers.specs.Regrets.{EndOfRegret};
 ghost use Rattle.sm_check_clauses.specs.Walking.{FindsOrKeeps};
 ghost use Rattle.sm_instance.specs.Matching.{IsMatching};
-ghost use Rattle.sm_pairs.specs.PairsKept.{ArePairsHeld};
+ghost use Rattle.sm_holding.specs.PairsKept.{ArePairsHeld};
 
 use crate::pairs::joins;
 use sm_check_clauses::{Judge, Reason, Verdict, judge_lines};
+use sm_holding::Holding;
 use sm_instance::{Assignment, Instance};
-use sm_pairs::Holding;
 use sm_report::Line;
 use std::alloc::{AllocError, Global};
 

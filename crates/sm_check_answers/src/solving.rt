@@ -4,7 +4,7 @@ ghost use Rattle.std.specs.Prelude.{◌≡◌, ℕ, ◌+◌, ◌<◌, ◌^◌, �
 ghost use Rattle.sm_agents.specs.Written.{Written};
 ghost use Rattle.sm_instance.specs.Stable.{IsStable, IsBestOf};
 ghost use Rattle.sm_seats.specs.Seating.{seating_of};
-ghost use Rattle.sm_pairs.specs.Holding.{IsHolding};
+ghost use Rattle.sm_holding.specs.Holding.{IsHolding};
 ghost use Rattle.sm_instance.specs.declared.inputs.Input.TheVariants.{Two};
 ghost use Rattle.sm_report.specs.Heads.{HeadData};
 ghost use Rattle.sm_report.specs.Lines.{LineData, line_of};
@@ -14,14 +14,14 @@ ghost use Rattle.sm_check_clauses.specs.Said.{pairs_in};
 ghost use Rattle.sm_check_clauses.specs.Walking.{FindsOrKeeps};
 ghost use Rattle.sm_check_clauses.specs.Judging.{answer, Clauses};
 ghost use Rattle.sm_check_clauses.specs.Pairs.{SolveHolds};
-ghost use Rattle.sm_pairs.specs.PairsKept.{ArePairsHeld};
+ghost use Rattle.sm_holding.specs.PairsKept.{ArePairsHeld};
 ghost use Rattle.sm_check_clauses.specs.Verdicts.{AtLine, Finds, IsVerdict};
 
 use crate::pairs::joins;
 use sm_check_clauses::{Judge, Reason, Verdict, judge_lines};
 use sm_check_decide::{is_proposers_best, is_reviewers_best};
+use sm_holding::Holding;
 use sm_instance::{Assignment, Instance, Side};
-use sm_pairs::Holding;
 use sm_report::Line;
 use sm_seats::Seats;
 use std::alloc::{AllocError, Global};

@@ -19,12 +19,12 @@ use Rattle.sm_market.proofs.PairingLemmas.{one_matching}
 use Rattle.sm_theory.specs.Lattice.{with_proposers}
 use Rattle.sm_theory.proofs.Core.Seats.{fit_of_seats}
 use Rattle.sm_theory.proofs.Bridge.Places.{row_past, held_map, matching_with, seats_with}
-use Rattle.sm_pairs.specs.Held.{partner_in, times_second}
-use Rattle.sm_pairs.proofs.HoldingLemmas.{changed_at, partner_in-push_same, partner_in-push_other}
+use Rattle.sm_holding.specs.Held.{partner_in, times_second}
+use Rattle.sm_holding.proofs.HoldingLemmas.{changed_at, partner_in-push_same, partner_in-push_other}
 use Rattle.sm_check_clauses.specs.SeatMatchings.{IsFreeSeat, seat_places_in, AreSeatPairs}
 use Rattle.sm_check_clauses.specs.SeatPairsKept.{HasTakenSeat}
 use Rattle.sm_check_clauses.specs.declared.seat_pairs.SeatPairs.{SeatPairs}
-use Rattle.sm_pairs.proofs.PairLemmas.{times_second-push}
+use Rattle.sm_holding.proofs.PairLemmas.{times_second-push}
 
 -- a matching is the one that is made of the places of its proposers
 pub with_proposers_is : {l : Lists} (h : IsMarket l) {m : Places} → IsMatching l m → with_proposers l m.proposers ≡ m

@@ -6,8 +6,8 @@ use Rattle.sm_instance.specs.Stable.{IsStable, IsBestOf}
 use Rattle.sm_agents.specs.declared.kinds.Side.{Side}
 use Rattle.sm_theory.specs.declared.choice.Choice.{Choice}
 use Rattle.sm_report.specs.Lines.{LineData}
-use Rattle.sm_pairs.specs.Held.{partner_in, places_in, CanFollow}
-use Rattle.sm_pairs.specs.Chosen.{chosen_places}
+use Rattle.sm_holding.specs.Held.{partner_in, places_in, CanFollow}
+use Rattle.sm_holding.specs.Chosen.{chosen_places}
 use Rattle.sm_check_clauses.specs.declared.verdicts.Reason.{Reason}
 use Rattle.sm_check_clauses.specs.declared.verdicts.Reason.TheVariants as reason
 use Rattle.sm_check_clauses.specs.Said.{pair_in, left_in, right_in, IsEnd}

@@ -9,7 +9,7 @@ use Rattle.sm_report.specs.Lines.{LineData}
 use Rattle.sm_check_clauses.specs.declared.verdicts.Reason.{Reason}
 use Rattle.sm_check_clauses.specs.declared.verdicts.Reason.TheVariants as reason
 use Rattle.sm_check_clauses.specs.Said.{pair_in, party_in, IsEnd}
-use Rattle.sm_pairs.specs.Held.{partner_in}
+use Rattle.sm_holding.specs.Held.{partner_in}
 
 -- the persons of pairs, and the pairs with both persons first
 abbrev pub persons_of : List (ℕ × ℕ) → List ℕ

@@ -12,7 +12,7 @@ use Rattle.sm_report.specs.Lines.{LineData}
 use Rattle.sm_check_clauses.specs.declared.verdicts.Reason.{Reason}
 use Rattle.sm_check_clauses.specs.declared.verdicts.Reason.TheVariants as reason
 use Rattle.sm_check_clauses.specs.Said.{first_in, firsts_in, last_in, lasts_in, is_up_to_firsts, is_up_to_lasts, IsFirstBehind}
-use Rattle.sm_pairs.specs.Held.{partner_in, times_second}
+use Rattle.sm_holding.specs.Held.{partner_in, times_second}
 use Rattle.sm_check_clauses.specs.declared.seat_pairs.SeatPairs.{SeatPairs}
 
 -- a pair may stand behind those before it: each lists the other, and neither is in one of them

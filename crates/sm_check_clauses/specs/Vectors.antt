@@ -11,7 +11,7 @@ use Rattle.sm_report.specs.Lines.{LineData}
 use Rattle.sm_check_clauses.specs.declared.verdicts.Reason.{Reason}
 use Rattle.sm_check_clauses.specs.declared.verdicts.Reason.TheVariants as reason
 use Rattle.sm_check_clauses.specs.Said.{pair_in, pairs_in, vectors_in, regret_in, first_said, IsEnd}
-use Rattle.sm_pairs.specs.Held.{places_in, CanFollow}
+use Rattle.sm_holding.specs.Held.{places_in, CanFollow}
 
 -- the places of ranks; none for the rank of being unmatched
 abbrev pub place_of_rank : Written → List ℕ → ℕ → Option ℕ

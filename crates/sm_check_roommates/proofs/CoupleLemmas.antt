@@ -10,7 +10,7 @@ use Rattle.std.proofs.lemmas.List.FromFn.{fill_by_all}
 use Rattle.std.proofs.lemmas.Option.{none-some, same_Some}
 use Rattle.sm_agents.specs.Written.{AgentData, lists_of}
 use Rattle.sm_theory.specs.Rooms.{IsAcceptable, IsRoomMatching, IsRoomStable, mate_of}
-use Rattle.sm_pairs.specs.Held.{partner_in}
+use Rattle.sm_holding.specs.Held.{partner_in}
 use Rattle.sm_report.specs.Lines.{LineData}
 use Rattle.sm_check_clauses.specs.declared.verdicts.Reason.{Reason}
 use Rattle.sm_check_clauses.specs.declared.verdicts.Reason.TheVariants as reason

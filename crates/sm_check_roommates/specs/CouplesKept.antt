@@ -3,7 +3,7 @@ use Rattle.std.specs.Prelude.{◌≡◌, ℕ, ◌<◌, ◌++◌, ◌∷◌, [], 
 use Rattle.sm_agents.specs.Written.{AgentData, lists_of}
 use Rattle.sm_theory.specs.Rooms.{IsRoomMatching, mate_of}
 use Rattle.sm_report.specs.Lines.{LineData}
-use Rattle.sm_pairs.specs.Held.{partner_in}
+use Rattle.sm_holding.specs.Held.{partner_in}
 use Rattle.sm_check_clauses.specs.Said.{pair_in, pairs_in}
 use Rattle.sm_check_clauses.specs.Rooming.{both_ways, IsFreeCouple}
 

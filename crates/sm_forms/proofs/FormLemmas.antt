@@ -12,7 +12,8 @@ use Rattle.sm_agents.specs.declared.kinds.Side.{Side}
 use Rattle.sm_agents.specs.declared.kinds.Side.TheVariants.{Proposers, Reviewers}
 use Rattle.sm_forms.specs.declared.forms.Condition.{Condition}
 use Rattle.sm_forms.specs.declared.forms.Condition.TheVariants.{Force, Forbid}
-use Rattle.sm_forms.specs.Forms.{Form, declares, uses, are_brackets, shares, orders, weighs, binds, list_form, capacity_form, weight_form, pair_form, reviewer_form, two_sided_form, form_behind, is_colon, has_two_sides, master_form, use_form, capacity_use_form, reviewer_use_form, order_form, second_form, two_sided_added_form, added_form, form_under}
+use Rattle.sm_forms.specs.Forms.{Form, declares, uses, are_brackets, shares, orders, weighs, binds, list_form, capacity_form, weight_form, pair_form, reviewer_form, two_sided_form, form_behind, is_colon, master_form, use_form, capacity_use_form, reviewer_use_form, order_form, second_form, two_sided_added_form, added_form, form_under}
+use Rattle.sm_agents.specs.Kinds.{has_two_sides}
 use Rattle.sm_forms.specs.Forms.{entries_in}
 use Rattle.sm_keys.proofs.WholeLemmas.{and_right}
 

@@ -14,6 +14,7 @@ use Rattle.sm_forms.specs.declared.forms.Condition.TheVariants.{Force, Forbid}
 use Rattle.sm_forms.specs.declared.forms.Form.{Form as Line}
 use Rattle.sm_forms.specs.declared.forms.Form.TheVariants.{Agent as AgentLine, Use as UseLine, Master as MasterLine, Order as OrderLine, Weight as WeightLine, Pair as PairLine}
 use Rattle.sm_text.specs.Slices.{texts_of}
+use Rattle.sm_agents.specs.Kinds.{has_two_sides, kind_named}
 
 -- A line by its form, with the runs that stand in the positions of names and of numbers: it declares an agent with a list, or
 -- one that has a master list; it declares a master list; it says which proposers come first; it weighs a pair; or it asks
@@ -119,12 +120,6 @@ two_sided_added_form kind word rest =
     (if bytes_eq word (codes "order") then order_form rest else
     (if bytes_eq word (codes "weight") then second_form rest else None))
 
--- an instance of this kind has two sides
-abbrev pub has_two_sides : Kind → Bool
-has_two_sides Marriage = true
-has_two_sides Hospitals = true
-has_two_sides Roommates = false
-
 -- the forms that format 2 adds, in an instance of a kind
 unfoldable pub added_form : Kind → List ℕ → List (List ℕ) → Option Form
 added_form kind word rest =
@@ -140,13 +135,6 @@ form_under kind format word rest = if format == 2 then option_or (form_behind ki
 unfoldable pub is_end : List (List ℕ) → Bool
 is_end (word ∷ []) = bytes_eq word (codes "end")
 is_end _ = false
-
--- the kind that a word names
-abbrev pub kind_named : List ℕ → Option Kind
-kind_named word =
-    if bytes_eq word (codes "marriage") then Some Marriage else
-    (if bytes_eq word (codes "hospitals") then Some Hospitals else
-    (if bytes_eq word (codes "roommates") then Some Roommates else None))
 
 -- the format that a word names
 abbrev pub format_named : List ℕ → Option ℕ

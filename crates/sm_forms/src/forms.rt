@@ -4,7 +4,7 @@ ghost use Rattle.std.specs.Prelude.{◌≡◌, IfSome};
 ghost use Rattle.std.specs.Option.{option_map};
 ghost use Rattle.std.specs.List.{list_all};
 ghost use Rattle.sm_text.specs.Tokens.{begins_run};
-ghost use Rattle.sm_forms.specs.Forms.{list_form, capacity_form, weight_form, pair_form, reviewer_form, two_sided_form, form_behind, is_end, header_of, kind_named, format_named, are_brackets, master_form, use_form, capacity_use_form, reviewer_use_form, order_form, second_form, two_sided_added_form, added_form, form_under};
+ghost use Rattle.sm_forms.specs.Forms.{list_form, capacity_form, weight_form, pair_form, reviewer_form, two_sided_form, form_behind, is_end, header_of, format_named, are_brackets, master_form, use_form, capacity_use_form, reviewer_use_form, order_form, second_form, two_sided_added_form, added_form, form_under};
 ghost use Rattle.sm_keys.specs.Tokens.{AreNamesAtEnd};
 ghost use Rattle.sm_text.specs.Slices.{texts_of};
 ghost use Rattle.sm_forms.specs.Forms.{form_of, IsOrderOf};
@@ -72,7 +72,7 @@ pub fn header_of(tokens: &[&[u8]]) -> Option<(Kind, u32)>
     match tokens {
         [word, format, kind] if is(word, b"stable") => {
             let format = format_named(format)?;
-            let kind = kind_named(kind)?;
+            let kind = Kind::named(kind)?;
             Some((kind, format))
         }
         _ => None,
@@ -87,21 +87,6 @@ fn format_named(word: &[u8]) -> Option<u32>
         Some(1)
     } else if is(word, b"2") {
         Some(2)
-    } else {
-        None
-    }
-}
-
-/// The kind that a word names.
-fn kind_named(word: &[u8]) -> Option<Kind>
-    ensures { result ≡ kind_named word.now }
-{
-    if is(word, b"marriage") {
-        Some(Kind::Marriage)
-    } else if is(word, b"hospitals") {
-        Some(Kind::Hospitals)
-    } else if is(word, b"roommates") {
-        Some(Kind::Roommates)
     } else {
         None
     }

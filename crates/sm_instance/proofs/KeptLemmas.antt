@@ -4,7 +4,7 @@ use Rattle.std.specs.List.{All}
 use Rattle.std.specs.Int.RustNames.{unsigned_abs}
 use Rattle.sm_text.specs.Limits.{most_weight}
 use Rattle.sm_agents.specs.Written.{Written}
-use Rattle.sm_agents.specs.declared.names.NameTables.{NameTables}
+use Rattle.sm_agents.specs.declared.name_tables.NameTables.{NameTables}
 use Rattle.sm_agents.specs.declared.spaced_sides.SpacedSides.{SpacedSides}
 use Rattle.sm_agents.proofs.SecondLemmas.{with_seconds}
 use Rattle.sm_instance.specs.Kept.{IsKept}

@@ -2,8 +2,8 @@
 use Rattle.std.specs.Prelude.{◌≡◌, ℕ, ◌+◌, ◌<◌, ◌^◌, List, length, map, Option, IfSome}
 use Rattle.sm_agents.specs.Written.{AgentData, Written, names_of, weighed}
 use Rattle.sm_agents.specs.Sound.{IsInstance, ArePersons}
-use Rattle.sm_agents.specs.declared.names.NameTables.{NameTables}
-use Rattle.sm_agents.specs.Names.{AreNamesOf}
+use Rattle.sm_agents.specs.declared.name_tables.NameTables.{NameTables}
+use Rattle.sm_agents.specs.NameTables.{AreNamesOf}
 use Rattle.sm_agents.specs.Spaced.{AreSpaced, AreSpacedSides}
 use Rattle.sm_agents.specs.declared.spaced_sides.SpacedSides.{SpacedSides}
 use Rattle.sm_text.specs.declared.spaced_name.SpacedName.{SpacedName}

@@ -11,15 +11,15 @@ ghost use Rattle.sm_agents.specs.Sound.{IsInstance};
 ghost use Rattle.sm_lists.specs.EachOnce.{IsEachOnce};
 ghost use Rattle.sm_instance.specs.Crosses.{cross_place, AreCrossesOf, crosses_lent};
 ghost use Rattle.sm_instance.specs.Namings.{AreAskedOf, asked};
-ghost use Rattle.sm_agents.specs.Names.{AreNamesOf};
+ghost use Rattle.sm_agents.specs.NameTables.{AreNamesOf};
 ghost use Rattle.sm_instance.specs.Kept.{IsKept};
 
 use crate::crosses::{Crosses, LentCrosses, find_crosses};
 use crate::namings::Namings;
 use sm_agents::{
     Agent, InstanceFault, Kind, NameTables, Pairs, Parts, SpacedSides, are_within_limits,
-    capacity_at, checked, checked_seconds, find_named, has_nonzero, list_at, name_tables,
-    put_name_at, set_seconds,
+    capacity_at, checked, checked_seconds, find_named, has_nonzero, list_at, put_name_at,
+    set_seconds,
 };
 use sm_lists::{first_place, is_each_once, place_by};
 use sm_text::{LineWriter, TextHash};
@@ -445,7 +445,7 @@ impl Instance {
         if self.names.is_none() {
             let alloc = *self.order.allocator();
             let hash = self.weighed.hash();
-            self.names = Some(name_tables(alloc, hash, &self.proposers, &self.reviewers)?);
+            self.names = Some(NameTables::of(alloc, hash, &self.proposers, &self.reviewers)?);
         }
         Ok(())
     }

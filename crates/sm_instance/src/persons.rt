@@ -8,10 +8,9 @@ ghost use Rattle.sm_agents.specs.Vectors.{agents_of};
 ghost use Rattle.sm_agents.specs.Sound.{ArePersons};
 
 use sm_agents::{
-    Agent, InstanceFault, Kind, Side, are_within_limits, check_entries, checked_names, names_for,
-    put_name_at, spaced_names,
+    Agent, InstanceFault, Kind, Names, Side, are_within_limits, check_entries, checked_names,
+    names_for, put_name_at, spaced_names,
 };
-use sm_names::Names;
 use sm_text::{LineWriter, SpacedName, TextHash};
 use std::alloc::{AllocError, Global};
 use std::marker::Model;

@@ -14,12 +14,13 @@ use Rattle.sm_agents.specs.Named.{SaidAgent, SaidPair, SaidWeight, SaidOrder, Sa
 use Rattle.sm_agents.specs.declared.kinds.Kind.{Kind}
 use Rattle.sm_agents.specs.declared.kinds.Kind.TheVariants.{Marriage, Hospitals, Roommates}
 use Rattle.sm_agents.specs.Nonzero.{is_zero}
-use Rattle.sm_printed.specs.Printed.{second_text, order_lines, pair_text, proposer_line, reviewer_line, weight_line, printed_lines}
+use Rattle.sm_instance_lines.specs.Printed.{second_text, order_lines, pair_text, proposer_line, reviewer_line, weight_line, printed_lines}
 use Rattle.sm_json.specs.Values.{items_in, list_of, every, name_in, names_in, if_capacity, weight_in}
 use Rattle.sm_json.specs.Parts.{JsonWeight, JsonInstance, agent_of, agent_in, agents_in, pair_in, pairs_in, weight_of, second_in, pair_weight_in, weights_in, instance_of, instance_in, kind_in, of_kind, two_in, order_in, by_member, of_parts, has_capacities, has_four, asks_second}
 use Rattle.sm_json.specs.JsonText.{json_lines, json_weight_line}
 use Rattle.sm_json.specs.JsonText.{second_text as json_second, order_lines as json_order}
-use Rattle.sm_json.specs.Making.{array_of, agent_json, pair_json, second_json, weight_json, order_json, with_order, unless_empty, kind_name, two_json, room_json}
+use Rattle.sm_json.specs.Making.{array_of, agent_json, pair_json, second_json, weight_json, order_json, with_order, unless_empty, two_json, room_json}
+use Rattle.sm_agents.specs.Kinds.{kind_name}
 use Rattle.sm_json.proofs.AddLemmas.{list_again}
 use Rattle.sm_json.specs.Saying.{IsSaidAgent, IsSaidPair, IsSaidWeight, IsSaid}
 

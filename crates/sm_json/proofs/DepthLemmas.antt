@@ -10,10 +10,11 @@ use Rattle.sm_instance.specs.Inputs.{kind_of}
 use Rattle.sm_instance.specs.declared.inputs.Input.{Input}
 use Rattle.sm_agents.specs.declared.kinds.Kind.{Kind}
 use Rattle.sm_agents.specs.declared.kinds.Kind.TheVariants.{Marriage, Hospitals, Roommates}
-use Rattle.sm_printed.specs.Names.{said_of}
+use Rattle.sm_instance_lines.specs.Names.{said_of}
 use Rattle.sm_agents.specs.Nonzero.{is_zero}
 use Rattle.sm_json.specs.Parts.{has_capacities}
-use Rattle.sm_json.specs.Making.{array_of, agent_json, pair_json, second_json, weight_json, order_json, with_order, kind_name, unless_empty, two_json, said_json, json_of}
+use Rattle.sm_json.specs.Making.{array_of, agent_json, pair_json, second_json, weight_json, order_json, with_order, unless_empty, two_json, said_json, json_of}
+use Rattle.sm_agents.specs.Kinds.{kind_name}
 
 no_floats : {A : Type 0} (f : A → Data) → ((x : A) → has_float (f x) ≡ false) → (xs : List A) → items_have_float (items_of (map f xs)) ≡ false
 no_floats f h [] = refl

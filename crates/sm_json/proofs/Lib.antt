@@ -1,5 +1,5 @@
 pub mod AddLemmas
-pub mod HeaderLemmas
+pub mod ArrayLemmas
 pub mod BackLemmas
 pub mod DepthLemmas
 pub mod MakeLemmas

@@ -8,7 +8,7 @@ use Rattle.serde_json.specs.Find.{get}
 use Rattle.sm_text.specs.Lines.{LF}
 use Rattle.sm_agents.specs.Named.{SaidPair}
 use Rattle.sm_report.specs.Fields.{spaced}
-use Rattle.sm_printed.specs.Printed.{pair_text}
+use Rattle.sm_instance_lines.specs.Printed.{pair_text}
 use Rattle.sm_json.specs.declared.agents.Role.{Role}
 use Rattle.sm_json.specs.declared.agents.Role.TheVariants.{Proposer, Reviewer, Hospital}
 use Rattle.sm_json.specs.Values.{has_only, items_in, every, name_in, names_in, if_so, weight_in}

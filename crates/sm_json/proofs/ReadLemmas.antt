@@ -11,7 +11,7 @@ use Rattle.sm_agents.specs.declared.kinds.Kind.{Kind}
 use Rattle.sm_agents.specs.declared.kinds.Kind.TheVariants.{Marriage, Hospitals, Roommates}
 use Rattle.sm_report.specs.Fields.{spaced}
 use Rattle.sm_answer.specs.Writing.{text_of}
-use Rattle.sm_printed.specs.Printed.{proposer_line, reviewer_line, force_line, forbid_line}
+use Rattle.sm_instance_lines.specs.Printed.{proposer_line, reviewer_line, force_line, forbid_line}
 use Rattle.sm_json.specs.declared.agents.Role.TheVariants.{Proposer}
 use Rattle.sm_json.specs.Values.{has_only, names_in, if_so}
 use Rattle.sm_json.specs.Parts.{JsonWeight, agents_in, pairs_in, weights_in, order_in, at, at_or, by_member, instance_of, of_parts, asks_second, two_members, room_members, two_in, room_in, has_capacities}

@@ -18,9 +18,9 @@ use Rattle.sm_instance.specs.declared.inputs.Input.{Input}
 use Rattle.sm_instance.specs.declared.inputs.Input.TheVariants.{Two, Room}
 use Rattle.sm_agents.proofs.ItemLemmas.{length-items}
 use Rattle.sm_answer.specs.Writing.{text_of}
-use Rattle.sm_printed.specs.Names.{name_of, said_agent, said_pair, said_weight, said_order, said_of}
-use Rattle.sm_printed.specs.Printed.{lines_of}
-use Rattle.sm_printed.proofs.ItemLemmas.{weight_there, force_there, forbid_there}
+use Rattle.sm_instance_lines.specs.Names.{name_of, said_agent, said_pair, said_weight, said_order, said_of}
+use Rattle.sm_instance_lines.specs.Printed.{lines_of}
+use Rattle.sm_instance_lines.proofs.ItemLemmas.{weight_there, force_there, forbid_there}
 use Rattle.sm_json.specs.Parts.{has_capacities}
 use Rattle.sm_json.specs.JsonText.{json_lines, json_text}
 use Rattle.sm_json.specs.Making.{two_json, said_json, said_by, json_of}

@@ -7,7 +7,7 @@ use Rattle.serde_json.specs.Read.{read}
 use Rattle.sm_agents.specs.declared.kinds.Kind.{Kind}
 use Rattle.sm_report.specs.Fields.{spaced}
 use Rattle.sm_answer.specs.Writing.{text_of}
-use Rattle.sm_printed.specs.Printed.{header_line, proposer_line, reviewer_line, pair_text, force_line, forbid_line}
+use Rattle.sm_instance_lines.specs.Printed.{header_line, proposer_line, reviewer_line, pair_text, force_line, forbid_line}
 use Rattle.sm_json.specs.Values.{if_so}
 use Rattle.sm_json.specs.Parts.{JsonWeight, JsonInstance, instance_in}
 

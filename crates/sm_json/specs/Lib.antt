@@ -8,4 +8,5 @@ pub mod Making
 pub mod Saying
 pub mod Back
 pub mod Wrapping
+pub mod Writing
 pub mod Witnesses

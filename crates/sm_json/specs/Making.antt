@@ -10,19 +10,14 @@ use Rattle.sm_agents.specs.Named.{SaidAgent, SaidPair, SaidWeight, SaidOrder, Sa
 use Rattle.sm_instance.specs.declared.inputs.Input.{Input}
 use Rattle.sm_agents.specs.declared.kinds.Kind.{Kind}
 use Rattle.sm_agents.specs.declared.kinds.Kind.TheVariants.{Marriage, Hospitals, Roommates}
-use Rattle.sm_printed.specs.Names.{name_of, said_agent, said_pair, said_weight, said_of}
+use Rattle.sm_instance_lines.specs.Names.{name_of, said_agent, said_pair, said_weight, said_of}
 use Rattle.sm_agents.specs.Nonzero.{is_zero}
 use Rattle.sm_json.specs.Parts.{has_capacities}
+use Rattle.sm_agents.specs.Kinds.{kind_name}
 
 -- an array of what some items give
 abbrev pub array_of : {A : Type 0} → (A → Data) → List A → Data
 array_of f xs = array (items_of (map f xs))
-
--- the name of a kind
-abbrev pub kind_name : Kind → List ℕ
-kind_name Marriage = codes "marriage"
-kind_name Hospitals = codes "hospitals"
-kind_name Roommates = codes "roommates"
 
 -- the capacity of an agent, where it has one, before its other members
 abbrev pub with_capacity : Bool → ℕ → Members → Members

@@ -6,7 +6,7 @@ use Rattle.sm_text.specs.Lines.{LF}
 use Rattle.sm_agents.specs.Named.{SaidAgent}
 use Rattle.sm_agents.specs.declared.kinds.Kind.TheVariants.{Marriage, Hospitals}
 use Rattle.sm_report.specs.Fields.{spaced}
-use Rattle.sm_printed.specs.Printed.{capacity_text, proposer_line, reviewer_line, pair_text}
+use Rattle.sm_instance_lines.specs.Printed.{capacity_text, proposer_line, reviewer_line, pair_text}
 use Rattle.serde_json.specs.Data.{Data}
 use Rattle.sm_json.specs.declared.looking.Owner.{Owner}
 use Rattle.sm_json.specs.declared.looking.Owner.TheVariants as owner

@@ -2,7 +2,7 @@
 use Rattle.std.specs.Prelude.{◌≡◌, [], ◌∷◌, codes, Some, None}
 use Rattle.serde_json.specs.Written.{compact_text}
 use Rattle.sm_instance.specs.declared.inputs.Input.TheVariants.{Two}
-use Rattle.sm_printed.specs.Witnesses.{marriage, ordered}
+use Rattle.sm_instance_lines.specs.Witnesses.{marriage, ordered}
 use Rattle.sm_json.specs.JsonText.{text_in}
 use Rattle.sm_json.specs.Making.{json_of}
 use Rattle.sm_json.specs.Wrapping.{json_of_lines}

@@ -5,8 +5,7 @@ ghost use Rattle.std.specs.List.{list_any};
 ghost use Rattle.std.specs.Str.{bytes_eq};
 ghost use Rattle.serde_json.specs.View.{view, members_view};
 ghost use Rattle.sm_json.specs.Values.{items_in, name_in, capacity_in, weight_in, are_only, has_only};
-ghost use Rattle.sm_report.specs.Meanings.{look_up};
-ghost use Rattle.sm_json.specs.Parts.{at, kind_in, kinds};
+ghost use Rattle.sm_json.specs.Parts.{at, kind_in};
 ghost use Rattle.sm_json.specs.Roles.{members_of};
 
 use serde_json::{Map, Value};
@@ -156,22 +155,7 @@ fn kind_of(value: &Value) -> Option<Kind>
     ensures { result ≡ kind_in (view value.now) }
 {
     match value.as_str() {
-        Some(text) => kind_named(text),
+        Some(text) => Kind::named(text.as_bytes()),
         None => None,
-    }
-}
-
-/// The kind of this name.
-fn kind_named(text: &str) -> Option<Kind>
-    ensures { result ≡ look_up kinds text.now }
-{
-    if text == "marriage" {
-        Some(Kind::Marriage)
-    } else if text == "hospitals" {
-        Some(Kind::Hospitals)
-    } else if text == "roommates" {
-        Some(Kind::Roommates)
-    } else {
-        None
     }
 }

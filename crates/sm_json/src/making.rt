@@ -12,15 +12,16 @@ ghost use Rattle.sm_json.specs.Parts.{has_capacities};
 ghost use Rattle.sm_agents.specs.Written.{weighed};
 ghost use Rattle.sm_agents.specs.Vectors.{agent_of, agents_of};
 ghost use Rattle.sm_instance.specs.declared.inputs.Input.TheVariants.{Two, Room};
-ghost use Rattle.sm_printed.specs.Names.{name_of, said_agent, said_pair, said_weight, said_of};
-ghost use Rattle.sm_printed.specs.Printed.{lines_of};
+ghost use Rattle.sm_instance_lines.specs.Names.{name_of, said_agent, said_pair, said_weight, said_of};
+ghost use Rattle.sm_instance_lines.specs.Printed.{lines_of};
 ghost use Rattle.sm_answer.specs.Writing.{text_of};
-ghost use Rattle.sm_json.specs.Making.{json_of, room_json, kind_name, array_of, agent_json, pair_json, weight_json, put_if, put_order, sides_put, conditions_put, AreNamed, AreListed, AreAllListed};
+ghost use Rattle.sm_json.specs.Making.{json_of, room_json, array_of, agent_json, pair_json, weight_json, put_if, put_order, sides_put, conditions_put, AreNamed, AreListed, AreAllListed};
+ghost use Rattle.sm_agents.specs.Kinds.{kind_name};
 ghost use Rattle.sm_json.specs.JsonText.{text_in};
 
 use serde_json::{Map, Value, push, put};
 use sm_instance::{Agent, Input, Instance, Kind, Persons};
-use sm_printed::has_own_order;
+use sm_instance_lines::has_own_order;
 use std::alloc::{AllocError, Global};
 
 /// The JSON of an instance: one object without spaces, in which members stand in the order of their names.
@@ -181,11 +182,7 @@ fn room_parts(alloc: Global, persons: &[Agent]) -> Result<Value, AllocError>
 fn kind_value(alloc: Global, kind: Kind) -> Result<Value, AllocError>
     ensures { IfOk result (λ value. view value ≡ string (kind_name kind)) }
 {
-    match kind {
-        Kind::Marriage => Value::try_from_str(alloc, "marriage"),
-        Kind::Hospitals => Value::try_from_str(alloc, "hospitals"),
-        Kind::Roommates => Value::try_from_str(alloc, "roommates"),
-    }
+    Value::try_from_str(alloc, kind.name())
 }
 
 /// The value of some agents, who list agents of others.

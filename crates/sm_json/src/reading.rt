@@ -16,6 +16,7 @@ use crate::looking::{Owner, has_only, kind_at};
 use crate::weights::{is_seconded, put_order, put_pairs, put_weights};
 use serde_json::Value;
 use sm_instance::Kind;
+use sm_instance_lines::put_header;
 use sm_text::LineWriter;
 use std::alloc::Global;
 
@@ -40,7 +41,7 @@ pub fn to_text(alloc: Global, bytes: &[u8]) -> Result<Vec<u8>, JsonFault>
 {
     let mut into = LineWriter::new(alloc, bytes.len())?;
     put_read(alloc, &mut into, bytes)?;
-    Ok(Vec::from_slice(alloc, into.bytes())?)
+    Ok(into.into_bytes())
 }
 
 /// Puts the text of the instance that bytes are.
@@ -107,30 +108,11 @@ fn put_two_sides(
 {
     match value.get("proposers") {
         Some(proposers) => match value.get("reviewers") {
-            Some(reviewers) => put_found(into, kind, role, value, proposers, reviewers),
+            Some(reviewers) => put_sides(into, kind, role, value, proposers, reviewers),
             None => Err(JsonFault::BadJson),
         },
         None => Err(JsonFault::BadJson),
     }
-}
-
-/// Puts the text of the instance that an object is whose members these are.
-fn put_found(
-    into: &mut LineWriter,
-    kind: Kind,
-    role: Role,
-    value: &Value,
-    proposers: &Value,
-    reviewers: &Value,
-) -> Result<(), JsonFault>
-    requires role { role ≡ role_of kind }
-    requires only { has_only two_members (view value.now) ≡ true }
-    requires left { Some (view proposers.now) ≡ get (codes "proposers") (view value.now) }
-    requires right { Some (view reviewers.now) ≡ get (codes "reviewers") (view value.now) }
-    ensures { Adds into.old.bytes into.new.bytes (instance_added (two_in kind (view value.now)))
-        result }
-{
-    put_sides(into, kind, role, value, proposers, reviewers)
 }
 
 /// Puts the text of an instance with these proposers and reviewers.
@@ -167,8 +149,7 @@ fn put_head(into: &mut LineWriter, kind: Kind, value: &Value) -> Result<(), Json
         (Some (with_end (json_header (asks_second (get (codes "weights") (view value.now))
         (get (codes "order") (view value.now))) kind))) result }
 {
-    let is_second = asks_second(value);
-    into.put_bytes(header(kind, is_second))?;
+    put_header(into, if asks_second(value) { 2 } else { 1 }, kind)?;
     into.put_bytes(b"\n")?;
     Ok(())
 }
@@ -184,21 +165,6 @@ fn asks_second(value: &Value) -> bool
             Some(weights) => is_seconded(weights),
             None => false,
         },
-    }
-}
-
-/// The header of a kind, of the first format or of the second.
-#[tactic(auto, using(crate::proofs::HeaderLemmas::first_marriage, crate::proofs::HeaderLemmas::first_hospitals, crate::proofs::HeaderLemmas::first_roommates, crate::proofs::HeaderLemmas::second_marriage, crate::proofs::HeaderLemmas::second_hospitals, crate::proofs::HeaderLemmas::second_roommates))]
-fn header(kind: Kind, is_second: bool) -> &'static [u8]
-    ensures { result.now ≡ json_header is_second kind }
-{
-    match (kind, is_second) {
-        (Kind::Marriage, false) => b"stable 1 marriage",
-        (Kind::Hospitals, false) => b"stable 1 hospitals",
-        (Kind::Roommates, false) => b"stable 1 roommates",
-        (Kind::Marriage, true) => b"stable 2 marriage",
-        (Kind::Hospitals, true) => b"stable 2 hospitals",
-        (Kind::Roommates, true) => b"stable 2 roommates",
     }
 }
 
@@ -242,7 +208,7 @@ fn put_room_head(into: &mut LineWriter) -> Result<(), JsonFault>
     ensures { Adds into.old.bytes into.new.bytes
         (Some (with_end (json_header false Kind.Roommates))) result }
 {
-    into.put_bytes(header(Kind::Roommates, false))?;
+    put_header(into, 1, Kind::Roommates)?;
     into.put_bytes(b"\n")?;
     Ok(())
 }

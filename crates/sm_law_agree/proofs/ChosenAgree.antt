@@ -10,9 +10,9 @@ use Rattle.sm_theory.specs.declared.choice.Choice.{Choice}
 use Rattle.sm_theory.specs.declared.choice.Choice.TheVariants.{Better, Worse}
 use Rattle.sm_report.specs.Heads.{HeadData}
 use Rattle.sm_report.specs.Lines.{LineData}
-use Rattle.sm_pairs.specs.Held.{places_in, CanFollow}
-use Rattle.sm_pairs.specs.Chosen.{chosen_places}
-use Rattle.sm_pairs.proofs.ChoiceLemmas.{chosen_assigned}
+use Rattle.sm_holding.specs.Held.{places_in, CanFollow}
+use Rattle.sm_holding.specs.Chosen.{chosen_places}
+use Rattle.sm_holding.proofs.ChoiceLemmas.{chosen_assigned}
 use Rattle.sm_answer_given.specs.Chosen.{chosen_lines}
 use Rattle.sm_answer_given.proofs.ChosenLemmas.{lines_sound}
 use Rattle.sm_report.specs.declared.keywords.Keyword.TheVariants as keyword

@@ -14,9 +14,9 @@ use Rattle.sm_agents.proofs.ListLemmas.{row_in_range}
 use Rattle.sm_instance.proofs.LoadLemmas.{load_before-suc}
 use Rattle.sm_instance.proofs.BreachLemmas.{load_mono}
 use Rattle.sm_instance.proofs.PlaceLemmas.{place_of-entry}
-use Rattle.sm_pairs.specs.Held.{partner_in, paired_place, places_in, times_second, CanFollow}
-use Rattle.sm_pairs.proofs.HoldingLemmas.{partner_in-push_same, partner_in-push_other, held_place}
-use Rattle.sm_pairs.proofs.PairLemmas.{times_second-push}
+use Rattle.sm_holding.specs.Held.{partner_in, paired_place, places_in, times_second, CanFollow}
+use Rattle.sm_holding.proofs.HoldingLemmas.{partner_in-push_same, partner_in-push_other, held_place}
+use Rattle.sm_holding.proofs.PairLemmas.{times_second-push}
 use Rattle.sm_report.specs.Lines.{LineData}
 use Rattle.sm_answer.specs.Lines.{line_or_none, lines_from}
 use Rattle.sm_check_clauses.specs.declared.verdicts.Reason.{Reason}

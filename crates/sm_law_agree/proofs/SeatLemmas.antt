@@ -27,13 +27,13 @@ use Rattle.sm_seats.proofs.SeatLemmas.{seat_found, seat_name, length-seats}
 use Rattle.sm_answer_rotations.specs.Reduction.{seat_of, best_seat, seat_line}
 use Rattle.sm_answer_rotations.specs.RotationLines.{seated_rotation}
 use Rattle.sm_check_forms.specs.Seats.{is_seat, seat_number, seat_numbers, all_numbered}
-use Rattle.sm_pairs.specs.Held.{partner_in, times_second}
-use Rattle.sm_pairs.proofs.HoldingLemmas.{partner_in-push_same, partner_in-push_other}
+use Rattle.sm_holding.specs.Held.{partner_in, times_second}
+use Rattle.sm_holding.proofs.HoldingLemmas.{partner_in-push_same, partner_in-push_other}
 use Rattle.sm_check_clauses.specs.declared.verdicts.Reason.{Reason}
 use Rattle.sm_check_clauses.specs.declared.verdicts.Reason.TheVariants as reason
 use Rattle.sm_check_clauses.specs.Said.{first_in, firsts_in, is_up_to_firsts, IsFirstBehind}
 use Rattle.sm_check_clauses.specs.SeatMatchings.{IsFreeSeat, seat_places_in, first_of, FirstsHold}
-use Rattle.sm_pairs.proofs.PairLemmas.{times_second-push}
+use Rattle.sm_holding.proofs.PairLemmas.{times_second-push}
 use Rattle.sm_check_clauses.proofs.SeatPairLemmas.{passed_over, with_proposers_is}
 use Rattle.sm_check_clauses.proofs.AnswerLemmas.{said_one}
 use Rattle.sm_law_agree.proofs.LineLemmas.{Steps, Held, numbers_hold, numbers_pass}

@@ -41,7 +41,7 @@ use Rattle.sm_answer_rotations.specs.RotationAnswer.{IsRotationAnswer}
 use Rattle.sm_answer_rotations.proofs.ShownLemmas.{correspondence}
 use Rattle.sm_answer_pairs.specs.RegretAnswer.{IsLeastRegret}
 use Rattle.sm_answer_pairs.specs.PairsAnswer.{IsPairsAnswer}
-use Rattle.sm_pairs.specs.Held.{CanHold, GiveStable}
+use Rattle.sm_holding.specs.Held.{CanHold, GiveStable}
 use Rattle.sm_answer_given.specs.GivenText.{AreGiven}
 use Rattle.sm_answer_roommates.specs.Witnesses.{odd_parties}
 use Rattle.sm_answer_roommates.proofs.WitnessLemmas.{odd_parties_shown}

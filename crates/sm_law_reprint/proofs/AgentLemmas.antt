@@ -20,7 +20,7 @@ use Rattle.sm_reader.specs.Judging.{goes, verdict_on, said_with, capacity_in}
 use Rattle.sm_keys.specs.Tables.{has_repeated}
 use Rattle.sm_keys.proofs.TextLemmas.{equal_text}
 use Rattle.sm_report.proofs.DecimalLemmas.{number_of-decimal}
-use Rattle.sm_printed.specs.Printed.{list_text, capacity_text, proposer_line, reviewer_line}
+use Rattle.sm_instance_lines.specs.Printed.{list_text, capacity_text, proposer_line, reviewer_line}
 use Rattle.sm_law_reprint.proofs.LineLemmas.{words_cut, tokens-named, tokens-bracketed, decimal_is_run, begins_run-run, HasNoEnds, both_free, name_free, words_free, list_free, capacity_free}
 use Rattle.sm_law_reprint.proofs.VerdictLemmas.{IsFaultless, proposer_goes, reviewer_goes, hospital_goes}
 

@@ -9,8 +9,8 @@ use Rattle.sm_lists.specs.EachOnce.{IsEachOnce}
 use Rattle.sm_agents.specs.Named.{SaidAgent, SaidPair, SaidWeight, names_of, names_first}
 use Rattle.sm_keys.specs.Tables.{is_unknown, number_in}
 use Rattle.sm_reader.specs.InstanceText.{lines_with_unknown, pairs_with_unknown, order_with_unknown, numbered}
-use Rattle.sm_order.specs.Full.{full_order}
-use Rattle.sm_printed.specs.Names.{name_of, said_agent, said_pair, said_weight}
+use Rattle.sm_agents.specs.Order.{full_order}
+use Rattle.sm_instance_lines.specs.Names.{name_of, said_agent, said_pair, said_weight}
 use Rattle.sm_law_reprint.specs.Reading.{unlined}
 use Rattle.sm_law_reprint.proofs.SectionLemmas.{lined}
 use Rattle.sm_law_reprint.proofs.AgentLemmas.{on_line}

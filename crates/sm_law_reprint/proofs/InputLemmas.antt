@@ -12,8 +12,8 @@ use Rattle.sm_agents.specs.declared.kinds.Kind.TheVariants.{Roommates}
 use Rattle.sm_instance.specs.declared.inputs.Input.TheVariants.{Two, Room}
 use Rattle.sm_agents.specs.Named.{SaidAgent, SaidPair, SaidWeight, names_of, entries_of}
 use Rattle.sm_agents.proofs.ItemLemmas.{length-items, item_first, pair_at-weighed}
-use Rattle.sm_printed.specs.Names.{name_of, said_agent, said_pair, said_weight, said_of}
-use Rattle.sm_printed.proofs.ItemLemmas.{weight_there, force_there, forbid_there}
+use Rattle.sm_instance_lines.specs.Names.{name_of, said_agent, said_pair, said_weight, said_of}
+use Rattle.sm_instance_lines.proofs.ItemLemmas.{weight_there, force_there, forbid_there}
 use Rattle.sm_law_reprint.proofs.AgentLemmas.{IsOwn, AreAgents}
 use Rattle.sm_law_reprint.proofs.PairLemmas.{HasNames, key_of, IsOwnWeight}
 use Rattle.sm_law_reprint.proofs.NameLemmas.{AreBelow, names_differ, is_named, same_number, all_named, none_repeated}

@@ -14,7 +14,8 @@ use Rattle.sm_agents.specs.declared.kinds.Kind.TheVariants.{Marriage, Hospitals,
 use Rattle.sm_report.specs.Fields.{spaced}
 use Rattle.sm_report.proofs.DecimalLemmas.{first_true, second_true, digits_of_decimal}
 use Rattle.sm_report.proofs.FreeLemmas.{is_free, free_of, free-append}
-use Rattle.sm_printed.specs.Printed.{header_line, kind_word, list_text, capacity_text}
+use Rattle.sm_instance_lines.specs.Printed.{header_line, list_text, capacity_text}
+use Rattle.sm_agents.specs.Kinds.{kind_name}
 use Rattle.sm_law_reprint.proofs.CutLemmas.{IsRun, name_is_run, tokens-run, mark_cut, tokens-blank, no_run, tokens-spaced}
 
 -- Numbers are runs.
@@ -130,7 +131,7 @@ unfolding is_blank begins_name is_name_byte
 words_cut rest = (refl, refl, refl, refl, refl)
 
 -- headers are cut into their words
-pub headers_cut : (second : Bool) (kind : Kind) → tokens (header_line (if second then 2 else 1) kind) ≡ codes "stable" ∷ decimal (if second then 2 else 1) ∷ kind_word kind ∷ []
+pub headers_cut : (second : Bool) (kind : Kind) → tokens (header_line (if second then 2 else 1) kind) ≡ codes "stable" ∷ decimal (if second then 2 else 1) ∷ kind_name kind ∷ []
 unfolding is_blank begins_name is_name_byte fmt.digits
 headers_cut true Marriage = refl
 headers_cut true Hospitals = refl

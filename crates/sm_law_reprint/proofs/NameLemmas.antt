@@ -12,7 +12,7 @@ use Rattle.sm_agents.specs.Written.{AgentData, no_agent, names_of as names_in}
 use Rattle.sm_agents.specs.Sound.{AreSoundAgents}
 use Rattle.sm_keys.specs.Tables.{has_repeated, is_unknown, number_in}
 use Rattle.sm_keys.proofs.TextLemmas.{same_text, other_text}
-use Rattle.sm_printed.specs.Names.{name_of}
+use Rattle.sm_instance_lines.specs.Names.{name_of}
 
 -- numbers that are those of so many agents
 abbrev pub AreBelow : ℕ → List ℕ → Type 0

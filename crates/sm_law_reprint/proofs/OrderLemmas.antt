@@ -5,7 +5,7 @@ use Rattle.std.proofs.lemmas.Bool.Decides.{nat_tests}
 use Rattle.std.proofs.lemmas.List.Folds.{list_any_at}
 use Rattle.std.proofs.lemmas.List.FromFn.{length-range_with_len, get_or-range_with_len}
 use Rattle.sm_lists.specs.EachOnce.{IsEachOnce}
-use Rattle.sm_order.specs.Full.{full_order}
+use Rattle.sm_agents.specs.Order.{full_order}
 
 -- a filter that each passes keeps all, and one that none passes keeps nothing
 filter_all : (p : ℕ → Bool) (xs : List ℕ) → ((k : ℕ) → k < length xs → p (get_or xs k 0) ≡ true) → filter p xs ≡ xs

@@ -18,7 +18,7 @@ use Rattle.sm_report.proofs.DecimalLemmas.{first_true, second_true, signed_of-de
 use Rattle.sm_agents.proofs.NonzeroLemmas.{zero_is}
 use Rattle.sm_text.specs.Tokens.{begins_run}
 use Rattle.sm_agents.specs.Nonzero.{is_zero}
-use Rattle.sm_printed.specs.Printed.{pair_text, weight_line, force_line, forbid_line}
+use Rattle.sm_instance_lines.specs.Printed.{pair_text, weight_line, force_line, forbid_line}
 use Rattle.sm_law_reprint.proofs.CutLemmas.{tokens-run, tokens-run_alone, tokens-blank, no_run}
 use Rattle.sm_law_reprint.proofs.LineLemmas.{words_cut, tokens-pair, signed_is_run, begins_run-run, HasNoEnds, both_free, name_free, run_free, words_free}
 use Rattle.sm_law_reprint.proofs.VerdictLemmas.{weight_goes, second_goes, force_goes, forbid_goes}

@@ -21,7 +21,7 @@ use Rattle.sm_reader.specs.Judging.{verdict_on, heading_of}
 use Rattle.sm_keys.specs.Tables.{has_repeated}
 use Rattle.sm_reader.specs.InstanceText.{ended, behind_header, before_header, instance_text}
 use Rattle.sm_agents.specs.Nonzero.{is_zero}
-use Rattle.sm_printed.specs.Printed.{format_of, header_line, proposer_line, reviewer_line, weight_line, force_line, forbid_line, order_line, order_lines, last_lines, agent_lines, printed_lines}
+use Rattle.sm_instance_lines.specs.Printed.{format_of, header_line, proposer_line, reviewer_line, weight_line, force_line, forbid_line, order_line, order_lines, last_lines, agent_lines, printed_lines}
 use Rattle.sm_law_reprint.proofs.CutLemmas.{with_end, lines_cut, content_of, no_run, tokens-spaced}
 use Rattle.sm_law_reprint.proofs.LineLemmas.{HasNoEnds, both_free, spaced_free, header_free, words_free, order_cut}
 use Rattle.sm_law_reprint.proofs.VerdictLemmas.{order_goes, heading_of-header, verdict_on-end}

@@ -13,11 +13,11 @@ use Rattle.sm_instance.specs.declared.inputs.Input.TheVariants.{Two, Room}
 use Rattle.sm_agents.specs.Named.{SaidAgent, Said, names_of, names_first}
 use Rattle.sm_answer.specs.Writing.{text_of}
 use Rattle.sm_reader.specs.InstanceText.{ended, listed_by_proposers, unknown_lines, lines_with_unknown, two_sides, input_of}
-use Rattle.sm_order.specs.Full.{full_order}
+use Rattle.sm_agents.specs.Order.{full_order}
 use Rattle.sm_keys.specs.Tables.{number_in}
-use Rattle.sm_printed.specs.Names.{said_of}
-use Rattle.sm_printed.specs.Printed.{format_of, header_line, agent_lines, printed_lines}
-use Rattle.sm_printed.proofs.ItemLemmas.{weight_there, force_there, forbid_there}
+use Rattle.sm_instance_lines.specs.Names.{said_of}
+use Rattle.sm_instance_lines.specs.Printed.{format_of, header_line, agent_lines, printed_lines}
+use Rattle.sm_instance_lines.proofs.ItemLemmas.{weight_there, force_there, forbid_there}
 use Rattle.sm_law_reprint.specs.Reading.{without_lines, printed_text, IsReadBack, PrintedIsRead}
 use Rattle.sm_law_reprint.proofs.CutLemmas.{with_end}
 use Rattle.sm_law_reprint.proofs.ReadLemmas.{lined_said, last_line, under_format, order_format, two_read, persons_read, lines_free, text_read}

@@ -20,7 +20,7 @@ use Rattle.sm_reader.specs.Judging.{goes, stops, of_form, heads, heading_of, ver
 use Rattle.sm_keys.specs.Tables.{has_repeated}
 use Rattle.sm_forms.proofs.NameLemmas.{names_begin, name_begins}
 use Rattle.sm_report.proofs.DecimalLemmas.{first_true}
-use Rattle.sm_printed.specs.Printed.{header_line}
+use Rattle.sm_instance_lines.specs.Printed.{header_line}
 use Rattle.sm_law_reprint.proofs.LineLemmas.{headers_cut, end_cut}
 use Rattle.sm_keys.proofs.RunLemmas.{run_no_bad}
 

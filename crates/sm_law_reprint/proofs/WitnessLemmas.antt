@@ -15,7 +15,7 @@ use Rattle.sm_keys.specs.Tokens.{is_bad}
 use Rattle.sm_reader.specs.Judging as judge
 use Rattle.sm_reader.specs.InstanceText as text
 use Rattle.sm_keys.proofs.TextLemmas.{same_text}
-use Rattle.sm_printed.specs.Witnesses.{marriage}
+use Rattle.sm_instance_lines.specs.Witnesses.{marriage}
 use Rattle.sm_law_reprint.specs.Witnesses.{MarriageIsSound, MarriageReadBack, OrderedReadBack, HospitalsReadBack, RoommatesReadBack}
 
 -- one lemma, so that what is unfolded is named once

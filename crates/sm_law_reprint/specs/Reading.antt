@@ -7,7 +7,7 @@ use Rattle.sm_instance.specs.declared.inputs.Input.{Input}
 use Rattle.sm_instance.specs.declared.inputs.Input.TheVariants.{Two, Room}
 use Rattle.sm_reader.specs.InstanceText.{ReadText, instance_text}
 use Rattle.sm_answer.specs.Writing.{text_of}
-use Rattle.sm_printed.specs.Printed.{lines_of}
+use Rattle.sm_instance_lines.specs.Printed.{lines_of}
 use Rattle.sm_json.specs.JsonText.{text_in}
 
 -- an instance whose agents stand on no line

@@ -5,7 +5,7 @@ use Rattle.sm_agents.specs.Written.{AgentData, Written}
 use Rattle.sm_instance.specs.Inputs.{IsInput}
 use Rattle.sm_instance.specs.declared.inputs.Input.TheVariants.{Two, Room}
 use Rattle.sm_reader.specs.InstanceText.{instance_text}
-use Rattle.sm_printed.specs.Witnesses.{agent, marriage, ordered, hospitals, persons}
+use Rattle.sm_instance_lines.specs.Witnesses.{agent, marriage, ordered, hospitals, persons}
 use Rattle.sm_law_reprint.specs.Reading.{printed_text}
 
 -- what the law asks for

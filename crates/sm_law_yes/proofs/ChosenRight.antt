@@ -18,11 +18,11 @@ use Rattle.sm_instance.proofs.LoadLemmas.{load_before-suc, at_place, place_at, t
 use Rattle.sm_market.specs.Lists.{entry as entry_in_rows}
 use Rattle.sm_theory.specs.declared.choice.Choice.{Choice}
 use Rattle.sm_theory.specs.declared.choice.Choice.TheVariants.{Better, Worse}
-use Rattle.sm_pairs.specs.Held.{partner_in, paired_place, places_in, CanFollow, EachCanFollow, CanHold, GiveStable}
-use Rattle.sm_pairs.specs.Chosen.{chosen_places, head_for}
-use Rattle.sm_pairs.proofs.ChoiceLemmas.{chosen_assigned}
-use Rattle.sm_pairs.proofs.HoldingLemmas.{held_place}
-use Rattle.sm_pairs.proofs.PairLemmas.{counted, free_more}
+use Rattle.sm_holding.specs.Held.{partner_in, paired_place, places_in, CanFollow, EachCanFollow, CanHold, GiveStable}
+use Rattle.sm_holding.specs.Chosen.{chosen_places, head_for}
+use Rattle.sm_holding.proofs.ChoiceLemmas.{chosen_assigned}
+use Rattle.sm_holding.proofs.HoldingLemmas.{held_place}
+use Rattle.sm_holding.proofs.PairLemmas.{counted, free_more}
 use Rattle.sm_report.specs.Lines.{LineData}
 use Rattle.sm_report.specs.Sound.{IsLineOf, ArePair}
 use Rattle.sm_report.specs.declared.keywords.Keyword.{Keyword}

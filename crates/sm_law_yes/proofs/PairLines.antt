@@ -17,7 +17,7 @@ use Rattle.sm_report.specs.Lines.{LineData}
 use Rattle.sm_report.specs.Keywords.{keyword_of}
 use Rattle.sm_answer.specs.Lines.{lines_from}
 use Rattle.sm_answer.proofs.AnswerLemmas.{lines_from-same}
-use Rattle.sm_pairs.specs.Held.{partner_in}
+use Rattle.sm_holding.specs.Held.{partner_in}
 use Rattle.sm_cert.specs.Yes.{AreApart, ArePairsOf}
 use Rattle.sm_cert.proofs.YesPairs.{same_places, held_there, given_there}
 use Rattle.sm_law_yes.specs.Reordered.{is_free, IsReordered}

@@ -9,8 +9,8 @@ use Rattle.sm_instance.specs.Allowed.{IsAllowed}
 use Rattle.sm_instance.specs.Ranks.{regret_of}
 use Rattle.sm_agents.specs.declared.kinds.Side.{Side}
 use Rattle.sm_theory.specs.declared.choice.Choice.{Choice}
-use Rattle.sm_pairs.specs.Held.{places_in, CanFollow}
-use Rattle.sm_pairs.specs.Chosen.{chosen_places}
+use Rattle.sm_holding.specs.Held.{places_in, CanFollow}
+use Rattle.sm_holding.specs.Chosen.{chosen_places}
 use Rattle.sm_report.specs.Heads.{HeadData}
 use Rattle.sm_report.specs.Lines.{LineData}
 use Rattle.sm_report.specs.declared.keywords.Keyword.TheVariants as keyword

@@ -36,7 +36,7 @@ use Rattle.sm_check_forms.specs.Layouts.{begins, left_behind, is_empty, is_whole
 use Rattle.sm_check_forms.specs.Forms.{closing, blocks_of, rotations_layout, opening_of}
 use Rattle.sm_check_forms.proofs.TakingLemmas.{and_left, and_right}
 use Rattle.sm_check_clauses.specs.Said.{first_in, firsts_in, rotation_in, rotations_in, needs_in, all_needs_in}
-use Rattle.sm_pairs.specs.Held.{partner_in}
+use Rattle.sm_holding.specs.Held.{partner_in}
 use Rattle.sm_cert.specs.Yes.{IsChainWritten, RotationsYes}
 use Rattle.sm_cert.proofs.YesLines.{by_head}
 use Rattle.sm_law_yes.specs.Reordered.{IsReordered, IsRightButForOrder}

@@ -13,7 +13,7 @@ use Rattle.sm_report.specs.declared.keywords.Keyword.{Keyword}
 use Rattle.sm_report.specs.Keywords.{keyword_of}
 use Rattle.sm_check_forms.specs.Keywords.{is_same}
 use Rattle.sm_check_forms.proofs.TakingLemmas.{and_left, and_right}
-use Rattle.sm_pairs.specs.Held.{CanFollow}
+use Rattle.sm_holding.specs.Held.{CanFollow}
 use Rattle.sm_check_clauses.specs.Pairs.{IsWanted}
 use Rattle.sm_check_clauses.specs.SeatMatchings.{IsFreeSeat}
 use Rattle.sm_check_clauses.specs.Said.{IsFirstBehind, IsEnd}

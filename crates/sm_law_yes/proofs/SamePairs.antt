@@ -8,8 +8,8 @@ use Rattle.std.proofs.lemmas.List.Sums.{sum_by-append}
 use Rattle.sm_agents.specs.Written.{Written, place_of, capacity_of}
 use Rattle.sm_market.specs.Lists.{Lists, place_of as market_place_of, agents}
 use Rattle.sm_theory.specs.Lattice.{with_proposers}
-use Rattle.sm_pairs.specs.Held.{partner_in, places_in, times_second, CanFollow}
-use Rattle.sm_pairs.proofs.PairLemmas.{times_second-push}
+use Rattle.sm_holding.specs.Held.{partner_in, places_in, times_second, CanFollow}
+use Rattle.sm_holding.proofs.PairLemmas.{times_second-push}
 use Rattle.sm_check_clauses.specs.Pairs.{IsWanted, AreAllThere}
 use Rattle.sm_check_clauses.specs.SeatMatchings.{IsFreeSeat, seat_places_in}
 use Rattle.sm_check_roommates.proofs.CoupleLemmas.{partner_in-append}

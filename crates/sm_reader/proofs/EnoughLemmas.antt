@@ -20,7 +20,8 @@ use Rattle.sm_keys.specs.Tables.{has_repeated}
 use Rattle.sm_keys.specs.Tokens.{is_bad}
 use Rattle.sm_keys.specs.Enough.{AreEnough, first_tokens}
 use Rattle.sm_keys.proofs.EnoughLemmas.{enough_any}
-use Rattle.sm_forms.specs.Forms.{Form, declares, shares, orders, list_form, capacity_form, weight_form, pair_form, reviewer_form, two_sided_form, form_behind, is_end, header_of, is_colon, master_form, use_form, capacity_use_form, reviewer_use_form, order_form, second_form, has_two_sides, two_sided_added_form, added_form, form_under}
+use Rattle.sm_forms.specs.Forms.{Form, declares, shares, orders, list_form, capacity_form, weight_form, pair_form, reviewer_form, two_sided_form, form_behind, is_end, header_of, is_colon, master_form, use_form, capacity_use_form, reviewer_use_form, order_form, second_form, two_sided_added_form, added_form, form_under}
+use Rattle.sm_agents.specs.Kinds.{has_two_sides}
 use Rattle.sm_reader.specs.Judging.{first_fault, entry_rows, limit_rows, is_bad_capacity, refuses, faces, fault_of, of_form, verdict_on, heading_of}
 use Rattle.sm_reader.proofs.JudgeLemmas.{by_fault}
 

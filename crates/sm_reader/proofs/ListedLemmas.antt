@@ -19,7 +19,8 @@ use Rattle.sm_keys.specs.Tables.{has_repeated, Table, Extends, Declares, IsListe
 use Rattle.sm_keys.specs.Tokens.{is_bad}
 use Rattle.sm_keys.proofs.RunLemmas.{run_no_bad}
 use Rattle.sm_keys.proofs.WholeLemmas.{and_left, and_right}
-use Rattle.sm_forms.specs.Forms.{Form, declares, list_form, reviewer_form, two_sided_form, form_behind, form_under, has_two_sides, is_end}
+use Rattle.sm_forms.specs.Forms.{Form, declares, list_form, reviewer_form, two_sided_form, form_behind, form_under, is_end}
+use Rattle.sm_agents.specs.Kinds.{has_two_sides}
 use Rattle.sm_reader.specs.Judging.{goes, verdict_on, of_form}
 use Rattle.sm_reader.specs.Draft.{listed_table, agent_in, masters_in, said_of, table_on, declared_on, listed_side, ChangesNames, IsDraft, AddsAgent, AreRunsRight, IsLineFault, IsRefusedBy, JudgesTokens, DeclaresOn, ListsOn, limit_fault, name_fault}
 use Rattle.sm_reader.specs.Listed.{side_by, DeclaresSide, IsAgentLine, ListsOnLine, AddsNamesOn, ListsLineOn, PutsDeclared, IsPutFault, KeepsSaid, AddsAgentLine, AddsLine, IsAgentFault}

@@ -13,7 +13,7 @@ use Rattle.sm_agents.specs.declared.kinds.Kind.TheVariants.{Marriage, Hospitals,
 use Rattle.sm_agents.specs.Named.{SaidPair, SaidWeight, names_of, names_first}
 use Rattle.sm_lists.specs.Earlier.{earlier_of}
 use Rattle.sm_reader.specs.InstanceText.{lines_with_unknown, pairs_with_unknown, order_with_unknown, least, unknown_lines, listed_by_proposers, numbered, two_sides}
-use Rattle.sm_order.specs.Full.{full_order}
+use Rattle.sm_agents.specs.Order.{full_order}
 use Rattle.sm_keys.specs.Tables.{number_in, Table}
 use Rattle.sm_reader.specs.Draft.{listed_table, agent_in, pair_in, given_in, order_of, said_of, IsDraft}
 use Rattle.sm_reader.specs.Numbering.{pair_among, weight_among, weighed_pair, second_of, agents_with_unknown, NumbersPersons, NumbersSides, NumbersSaid, NumbersBoth, ArePartsOf}

@@ -19,12 +19,12 @@ use Rattle.sm_agents.specs.declared.kinds.Kind.TheVariants.{Marriage, Hospitals,
 use Rattle.sm_agents.specs.Named.{SaidAgent, SaidPair, SaidWeight, SaidOrder, Said, names_of, names_first, entries_of}
 use Rattle.sm_keys.specs.Tables.{has_repeated, is_unknown, number_in}
 use Rattle.sm_reader.specs.InstanceText.{lines_with_unknown, pairs_with_unknown, order_with_unknown, unknown_lines, listed_by_proposers, least, numbered, numbered_pair, two_sides}
-use Rattle.sm_order.specs.Full.{full_order}
+use Rattle.sm_agents.specs.Order.{full_order}
 use Rattle.sm_reader.specs.Right.{IsRightAgent, IsRight}
 use Rattle.sm_keys.proofs.PositionLemmas.{position_or_len-lt, at_position}
 use Rattle.sm_keys.proofs.TextLemmas.{same_text}
 use Rattle.sm_reader.proofs.RightLemmas.{fails_at}
-use Rattle.sm_order.proofs.FullLemmas.{full_order_each}
+use Rattle.sm_agents.proofs.OrderLemmas.{full_order_each}
 
 -- no line has an unknown name
 least_none : (xs : List ℕ) → least xs ≡ None → xs ≡ []

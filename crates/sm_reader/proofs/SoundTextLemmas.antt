@@ -9,7 +9,7 @@ use Rattle.sm_instance.specs.Inputs.{IsInput}
 use Rattle.sm_agents.specs.Named.{Said, nothing}
 use Rattle.sm_agents.specs.declared.kinds.Kind.{Kind}
 use Rattle.sm_agents.specs.declared.kinds.Kind.TheVariants.{Marriage, Hospitals, Roommates}
-use Rattle.sm_forms.specs.Forms.{has_two_sides}
+use Rattle.sm_agents.specs.Kinds.{has_two_sides}
 use Rattle.sm_reader.specs.Judging.{Verdict, goes, stops, refuses, verdict_on, by_verdict, Heading, passes, heads, faces, heading_of, by_heading}
 use Rattle.sm_reader.specs.InstanceText.{ReadText, Refusal, unknown_lines, least, input_of, ended, behind_header, before_header, instance_text}
 use Rattle.sm_reader.specs.Laws.{TextIsSound}

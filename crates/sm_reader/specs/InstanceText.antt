@@ -14,7 +14,7 @@ use Rattle.sm_instance.specs.declared.inputs.Input.{Input}
 use Rattle.sm_instance.specs.declared.inputs.Input.TheVariants.{Two, Room}
 use Rattle.sm_agents.specs.Named.{SaidAgent, SaidPair, SaidWeight, SaidOrder, Said, nothing, names_of, names_first}
 use Rattle.sm_keys.specs.Tables.{is_unknown, number_in}
-use Rattle.sm_order.specs.Full.{full_order}
+use Rattle.sm_agents.specs.Order.{full_order}
 use Rattle.sm_reader.specs.Judging.{verdict_on, by_verdict, heading_of, by_heading}
 use Rattle.sm_reader.specs.declared.reading.Read.{Read}
 use Rattle.sm_reader.specs.declared.faults.TextFault.{TextFault}

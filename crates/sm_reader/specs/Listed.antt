@@ -9,7 +9,8 @@ use Rattle.sm_agents.specs.declared.kinds.Side.{Side}
 use Rattle.sm_agents.specs.declared.kinds.Side.TheVariants.{Proposers, Reviewers}
 use Rattle.sm_keys.specs.Tables.{has_repeated}
 use Rattle.sm_keys.specs.Lines.{AreListed, AddsNames}
-use Rattle.sm_forms.specs.Forms.{declares, form_under, has_two_sides}
+use Rattle.sm_forms.specs.Forms.{declares, form_under}
+use Rattle.sm_agents.specs.Kinds.{has_two_sides}
 use Rattle.sm_reader.specs.Judging.{fault_of}
 use Rattle.sm_reader.specs.Draft.{said_of, table_on, declared_on, ChangesNames, IsDraft, AddsForm, IsLineFault, DeclaresOn, PutsOn, name_fault}
 use Rattle.sm_reader.specs.declared.draft.Declared.{Declared}

@@ -8,7 +8,7 @@ use Rattle.sm_agents.specs.Vectors.{agents_of}
 use Rattle.sm_agents.specs.Named.{SaidPair, SaidWeight, names_first}
 use Rattle.sm_keys.specs.Tables.{number_in, Table}
 use Rattle.sm_reader.specs.InstanceText.{numbered, lines_with_unknown, unknown_lines, least}
-use Rattle.sm_order.specs.Full.{full_order}
+use Rattle.sm_agents.specs.Order.{full_order}
 use Rattle.sm_reader.specs.Draft.{IsDraft, said_of, listed_table, agent_in, pair_in, given_in, order_of}
 use Rattle.sm_reader.specs.Right.{IsRight}
 use Rattle.sm_text.specs.Limits.{most_bytes, most_agents}

@@ -4,7 +4,7 @@ ghost use Rattle.std.specs.Prelude.{◌≡◌, ℕ, ◌<◌, ◌≤◌, true, sl
 ghost use Rattle.sm_text.specs.Limits.{most_agents, most_entries};
 ghost use Rattle.sm_text.specs.Name.{is_name as is_a_name};
 ghost use Rattle.sm_text.specs.Tokens.{tokens};
-ghost use Rattle.sm_forms.specs.Forms.{has_two_sides};
+ghost use Rattle.sm_agents.specs.Kinds.{has_two_sides};
 ghost use Rattle.sm_reader.specs.Draft.{IsDraft, declared_on, table_on};
 ghost use Rattle.sm_reader.specs.Listed.{side_by, DeclaresSide, IsAgentLine, ListsLineOn, AddsLine, IsAgentFault, PutsDeclared, IsPutFault};
 

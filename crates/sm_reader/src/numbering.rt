@@ -12,10 +12,10 @@ ghost use Rattle.sm_reader.specs.Draft.{said_of, listed_table, agent_in, pair_in
 ghost use Rattle.sm_reader.specs.Numbering.{line_if, pair_among, weight_among, weighed_pair, second_of, agents_with_unknown, IsReady, IsTwoSided, NumbersPersons, NumbersSides, NumbersSaid, NumbersBoth, ArePartsOf};
 
 use crate::draft::{Declared, Draft, Order, Pair, Weighed};
+use sm_agents::full_order;
 use sm_instance::{Agent, Kind, Parts};
 use sm_keys::Names;
 use sm_lists::earlier;
-use sm_order::full_order;
 use std::alloc::{AllocError, Global};
 
 /// The agents of both sides by number, and the order of the proposers.

@@ -1,11 +1,11 @@
-//! Instances that are printed, line by line. What the lines of an instance are stands in the witnesses of `sm_printed`.
+//! Instances that are printed, line by line. What the lines of an instance are stands in the witnesses of `sm_instance_lines`.
 
 ghost use Rattle.std.specs.Prelude.{◌≤◌};
 
 use crate::made::MEMORY;
 use sm_answer::Lines;
 use sm_instance::Input;
-use sm_printed::{instance_lines, put_instance_line};
+use sm_instance_lines::{instance_lines, put_instance_line};
 use sm_reader::read_instance;
 use sm_text::LineWriter;
 use std::process::Abort;

@@ -2,11 +2,11 @@
 
 ghost use Rattle.std.specs.Prelude.{◌≡◌, ◌<◌, length};
 ghost use Rattle.sm_instance.specs.Matching.{IsMatching};
-ghost use Rattle.sm_pairs.specs.Holding.{IsHolding};
+ghost use Rattle.sm_holding.specs.Holding.{IsHolding};
 
 use crate::made::{agent, copy, one, three, two};
+use sm_holding::Holding;
 use sm_instance::{Assignment, Input, Instance, InstanceFault, Kind, Measure, Persons, Side};
-use sm_pairs::Holding;
 use std::process::Abort;
 
 /// The residents a: k h, b: z h and c: h k, who doesn't stand on k's list; h has two places, k one and z none.

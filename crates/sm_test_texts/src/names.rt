@@ -3,7 +3,7 @@
 ghost use Rattle.std.specs.Prelude.{[], ◌≡◌, ◌≤◌, ◌<◌, ◌+◌, ◌^◌, length};
 
 use crate::made::MEMORY;
-use sm_names::Names;
+use sm_agents::Names;
 use sm_text::TextHash;
 use std::process::Abort;
 

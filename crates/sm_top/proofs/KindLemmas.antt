@@ -29,19 +29,20 @@ use Rattle.sm_answer_roommates.specs.RoomAnswer.{IsMatched, IsUnmatchable}
 use Rattle.sm_top.specs.declared.status.Status.{Status}
 use Rattle.sm_top.specs.declared.status.Status.TheVariants.{Done, NoneExists}
 use Rattle.sm_top.specs.Texts.{RefusalData, plain_refusal}
-use Rattle.sm_words.specs.Takes.{reads_input, is_two_sided, takes_kind, takes_rooms_alone}
+use Rattle.sm_words.specs.Takes.{reads_input, takes_kind, takes_rooms_alone}
+use Rattle.sm_agents.specs.Kinds.{has_two_sides}
 use Rattle.sm_top.specs.Accepting.{too_many_in, too_many_seats, first_refusal, judged, accepted, IsTooMany}
 use Rattle.sm_tally.specs.Fold.{Shown}
 use Rattle.sm_words.specs.Words.{usual_limit}
 use Rattle.sm_answer_survey.specs.SurveyAnswer.{IsSurveyAnswer}
-use Rattle.sm_printed.specs.Printed.{lines_of}
+use Rattle.sm_instance_lines.specs.Printed.{lines_of}
 use Rattle.sm_top.specs.Outcome.{IsWeighed, IsMiddle, IsSummary, IsMade, IsSolved, IsRegretted, IsAnswerOver, IsAnswer, IsRefused, not_accepted}
 use Rattle.sm_top.specs.Wrote.{Wrote, With}
 use Rattle.sm_top.proofs.WritingLemmas.{wrote_for, wrote_shown}
 
 -- Instances with two sides: every job takes them but `rest`.
 
-two_sided : (kind : Kind) → kind ≢ Roommates → is_two_sided kind ≡ true
+two_sided : (kind : Kind) → kind ≢ Roommates → has_two_sides kind ≡ true
 two_sided Marriage two = refl
 two_sided Hospitals two = refl
 two_sided Roommates two = absurd (two refl)

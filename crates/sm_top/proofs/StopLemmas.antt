@@ -11,7 +11,7 @@ use Rattle.sm_instance.specs.declared.inputs.Input.TheVariants.{Two, Room}
 use Rattle.sm_report.specs.Texts.{left_name, right_name}
 use Rattle.sm_report.proofs.DecimalLemmas.{first_true, second_true}
 use Rattle.sm_report.proofs.FreeLines.{number_plain, both_plain}
-use Rattle.sm_printed.proofs.PlainLemmas.{name_of_plain}
+use Rattle.sm_instance_lines.proofs.PlainLemmas.{name_of_plain}
 use Rattle.sm_answer.specs.Giving.{PutsNext}
 use Rattle.sm_answer_given.specs.declared.faults.Which.{Which}
 use Rattle.sm_answer_given.specs.declared.faults.Which.TheVariants.{Left, Right}
@@ -19,7 +19,8 @@ use Rattle.sm_answer_given.specs.declared.faults.Flaw.{Flaw}
 use Rattle.sm_answer_given.specs.declared.faults.Flaw.TheVariants.{Breach, Blocks}
 use Rattle.sm_answer_given.specs.declared.faults.Unstable.{Unstable}
 use Rattle.sm_top.specs.Outcome.{which_name, flaw_name, unstable_fields}
-use Rattle.sm_top.specs.Texts.{with_detail, plain_refusal, spaced, usage_line, refused_line, are_plain}
+use Rattle.sm_top.specs.Texts.{with_detail, plain_refusal, usage_line, refused_line, are_plain}
+use Rattle.sm_report.specs.Fields.{spaced}
 use Rattle.sm_top.specs.Unsaid.{lines_unsaid, most_unsaid}
 
 -- once it is put, nothing is left to say

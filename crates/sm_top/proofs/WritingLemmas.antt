@@ -5,7 +5,7 @@ use Rattle.sm_io.specs.Faults.{Rose}
 use Rattle.sm_answer.specs.Printing.{IsShown}
 use Rattle.sm_io.specs.Sink.{Grows, IsPart}
 use Rattle.sm_answer.specs.Writing.{text_of, WroteAll, WroteFront}
-use Rattle.sm_wrapped.specs.Writing.{WroteArray, WroteArrayFront}
+use Rattle.sm_json.specs.Writing.{WroteArray, WroteArrayFront}
 use Rattle.sm_text.specs.Lines.{LF}
 use Rattle.sm_words.specs.declared.jobs.Form.TheVariants.{Text, Json}
 use Rattle.sm_top.specs.Forms.{written_text}

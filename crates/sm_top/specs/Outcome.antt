@@ -47,7 +47,7 @@ use Rattle.sm_answer_median.specs.MedianAnswer.{IsMedianAnswer, AreTooMany}
 use Rattle.sm_answer_route.specs.RouteAnswer.{IsRouteAnswer}
 use Rattle.sm_make.specs.Made.{made_instance}
 use Rattle.sm_json.specs.Making.{json_of}
-use Rattle.sm_printed.specs.Printed.{lines_of}
+use Rattle.sm_instance_lines.specs.Printed.{lines_of}
 use Rattle.sm_answer_roommates.specs.RoomAnswer.{IsMatched, IsUnmatchable}
 use Rattle.sm_answer_roommates.specs.RestAnswer.{IsRest}
 use Rattle.sm_answer_roommates.specs.RoomListAnswer.{IsRoomListAnswer}

@@ -1,10 +1,11 @@
 -- The lines that are written where there is no answer.
 use Rattle.std.specs.Prelude.{ℕ, List, [], ◌++◌, Bool, codes, decimal, map, Vec}
-use Rattle.std.specs.List.{flat_map, list_all}
+use Rattle.std.specs.List.{list_all}
 use Rattle.std.specs.declared.alloc.Global.{Global}
 use Rattle.sm_text.specs.Plain.{is_plain}
 use Rattle.sm_text.specs.Refusal.{name_of_refusal}
 use Rattle.sm_text.specs.declared.refusal.RefusalKind.{RefusalKind}
+use Rattle.sm_report.specs.Fields.{spaced}
 
 -- a refusal: why an input is refused, at which of its lines, and the fields that tell more
 pub record RefusalData : Type 0 where
@@ -19,10 +20,6 @@ with_detail kind at detail = record { kind = kind; at = at; detail = detail }
 -- a refusal without fields
 abbrev pub plain_refusal : RefusalKind → ℕ → RefusalData
 plain_refusal kind at = with_detail kind at []
-
--- fields, each behind a space
-abbrev pub spaced : List (List ℕ) → List ℕ
-spaced fields = flat_map (λ field. codes " " ++ field) fields
 
 -- the line that names a refusal
 abbrev pub refused_line : RefusalData → List ℕ

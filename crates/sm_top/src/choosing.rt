@@ -15,8 +15,8 @@ use crate::status::Status;
 use crate::stop::Stop;
 use crate::writing::write;
 use sm_answer_given::chosen_lines;
+use sm_holding::choose_places;
 use sm_io::Sink;
-use sm_pairs::choose_places;
 use sm_theory::Choice;
 use std::alloc::Global;
 

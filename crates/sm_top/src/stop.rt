@@ -2,7 +2,8 @@
 
 ghost use Rattle.std.specs.Prelude.{◌≡◌, OnOk, ◌++◌, [], true};
 ghost use Rattle.sm_text.specs.Plain.{is_plain};
-ghost use Rattle.sm_top.specs.Texts.{plain_refusal, refusal_fields, spaced, usage_line, refused_line, are_plain};
+ghost use Rattle.sm_top.specs.Texts.{plain_refusal, refusal_fields, usage_line, refused_line, are_plain};
+ghost use Rattle.sm_report.specs.Fields.{spaced};
 
 use sm_answer::Lines;
 use sm_text::{LineWriter, RefusalKind};

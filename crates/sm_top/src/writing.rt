@@ -9,8 +9,8 @@ ghost use Rattle.sm_top.specs.Wrote.{Wrote, With};
 use crate::status::Status;
 use sm_answer::{Lines, Unwritten};
 use sm_io::{Put, Sink};
+use sm_json::write_wrapped;
 use sm_words::Form;
-use sm_wrapped::write_wrapped;
 use std::alloc::Global;
 
 /// Writes lines in a form, and answers the status that goes with them where all are written.

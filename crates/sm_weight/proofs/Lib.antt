@@ -6,7 +6,7 @@ pub mod SizeLemmas
 pub mod CountLemmas
 pub mod GainLemmas
 pub mod MergedLemmas
-pub mod BasisLemmas
+pub mod NetLemmas
 pub mod ShortLemmas
 pub mod SecondLemmas
 pub mod TwoLemmas

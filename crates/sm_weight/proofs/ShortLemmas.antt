@@ -13,7 +13,7 @@ use Rattle.sm_theory.specs.Conditions.{entry_node, exit_node}
 use Rattle.sm_weight.proofs.CountLemmas.{sum_to-ones}
 use Rattle.sm_weight.specs.declared.edges.Edge.{Edge}
 use Rattle.sm_weight.specs.Edges.{loose, room_size, room_total}
-use Rattle.sm_weight.specs.Basis.{joined, need_edges, gain_edge, gain_edges, forced_edges, forbidden_edges, raw_edges}
+use Rattle.sm_weight.specs.Net.{joined, need_edges, gain_edge, gain_edges, forced_edges, forbidden_edges, raw_edges}
 
 pub rooms_append : (xs ys : List Edge) → room_total (xs ++ ys) ≡ room_total xs + room_total ys
 rooms_append xs ys = sum_by-append (λ (e : Edge). room_size e.room) xs ys

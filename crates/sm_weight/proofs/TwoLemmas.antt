@@ -18,7 +18,7 @@ use Rattle.sm_theory.specs.declared.flow_lines.FlowLine.{FlowLine}
 use Rattle.sm_weight.specs.Lines.{IsCutFound}
 use Rattle.sm_weight.specs.Second.{gain_at, AreCutsFound}
 use Rattle.sm_weight.specs.declared.second.TwoCuts.{TwoCuts}
-use Rattle.sm_weight.proofs.BasisLemmas.{gains_at}
+use Rattle.sm_weight.proofs.NetLemmas.{gains_at}
 
 -- no path of unbounded edges leads through the second net of a flow whose reach no residual step leaves
 pub no_second_path : (net : Net) (gains : List ℤ) {members : List Bool} {lines : List FlowLine} {value : ℕ} → IsCutFound net members lines value

@@ -3,5 +3,5 @@ pub mod Lines
 pub mod Second
 pub mod Spans
 pub mod Sizes
-pub mod Basis
+pub mod Net
 pub mod Lightest

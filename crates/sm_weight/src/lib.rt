@@ -10,10 +10,10 @@
 //! Queyranne 1980).
 #![tactic(auto)]
 
-mod basis;
 mod edges;
 mod flows;
 mod gains;
+mod net;
 mod second;
 mod spans;
 mod weighing;

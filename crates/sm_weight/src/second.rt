@@ -5,14 +5,14 @@ ghost use Rattle.sm_flow.specs.Flowing.{amount};
 ghost use Rattle.sm_theory.specs.Net.{Net, sink_of, IsUnbounded, IsReachable};
 ghost use Rattle.sm_theory.specs.FlowLines.{amount_on};
 ghost use Rattle.sm_theory.specs.SecondNets.{second_net};
-ghost use Rattle.sm_weight.specs.Basis.{joined};
+ghost use Rattle.sm_weight.specs.Net.{joined};
 ghost use Rattle.sm_weight.specs.Edges.{room_total, AreOnNodes, AreEdges};
 ghost use Rattle.sm_weight.specs.Lines.{lines_to};
 ghost use Rattle.sm_weight.specs.Second.{gain_at, has_left, inner, where_holds, steps_of, step_edges, AreCutsFound};
 
-use crate::basis::add_gains;
 use crate::edges::{Edge, merged};
 use crate::flows::{LeastCut, least_cut};
+use crate::net::add_gains;
 use sm_flow::Flow;
 use sm_theory::FlowLine;
 use std::alloc::{AllocError, Global};

@@ -6,8 +6,8 @@ ghost use Rattle.sm_theory.specs.Vectors.{AreLevels, AreInRange};
 ghost use Rattle.sm_weight.specs.Sizes.{weights_in, AreWeights};
 ghost use Rattle.sm_weight.specs.Lightest.{AreGains, NoneGains, IsLightestFound, IsNothingAllowed};
 
-use crate::basis::{allows_nothing, net_edges};
 use crate::gains::gains;
+use crate::net::{allows_nothing, net_edges};
 use crate::second::least_cuts;
 use sm_poset::{Conditions, Poset};
 use sm_theory::{ClosedSet, FlowLine};

@@ -1,7 +1,7 @@
 -- What a job takes.
 use Rattle.std.specs.Prelude.{◌≡◌, ℕ, Bool, true, false, not, List, None}
+use Rattle.sm_agents.specs.Kinds.{has_two_sides}
 use Rattle.sm_agents.specs.declared.kinds.Kind.{Kind}
-use Rattle.sm_agents.specs.declared.kinds.Kind.TheVariants.{Marriage, Hospitals, Roommates}
 use Rattle.sm_words.specs.Jobs.{JobData, Solve, Meet, Join, Check, Make, Rest, Route, Export}
 
 -- an input: every job but `make` reads one
@@ -26,12 +26,6 @@ abbrev pub judges_answer : JobData → Bool
 judges_answer Check = true
 judges_answer job = false
 
--- the kinds with two sides
-abbrev pub is_two_sided : Kind → Bool
-is_two_sided Marriage = true
-is_two_sided Hospitals = true
-is_two_sided Roommates = false
-
 -- a kind: `check`, `list`, `export`, and `solve` where it names no side, take all, `rest` takes roommates, and the others those with two
 -- sides; `make` takes none
 abbrev pub takes_kind : JobData → Kind → Bool
@@ -39,9 +33,9 @@ takes_kind (Solve None) kind = true
 takes_kind (JobData.List after limit) kind = true
 takes_kind Check kind = true
 takes_kind (Make shape size seed summary) kind = false
-takes_kind Rest kind = not (is_two_sided kind)
+takes_kind Rest kind = not (has_two_sides kind)
 takes_kind Export kind = true
-takes_kind job kind = is_two_sided kind
+takes_kind job kind = has_two_sides kind
 
 -- roommates alone: `rest`
 abbrev pub takes_rooms_alone : JobData → Bool

@@ -5,7 +5,7 @@ use Rattle.sm_report.specs.Lines.{LineData}
 use Rattle.sm_report.specs.Sound.{IsLineOf}
 use Rattle.sm_answer.proofs.AnswerLemmas.{same_some, same_is, joined_some, joined_is, given_right, given_some}
 use Rattle.sm_answer_given.specs.Chosen.{IsChosenAnswer}
-use Rattle.sm_pairs.proofs.ChoiceLemmas.{chosen_assigned}
+use Rattle.sm_holding.proofs.ChoiceLemmas.{chosen_assigned}
 use Rattle.sm_answer_given.proofs.ChosenLemmas.{lines_sound, lines_right, parts_given, parts_are}
 use Rattle.sm_answer_given.proofs.chosen.chosen_lines.Goals as goal
 

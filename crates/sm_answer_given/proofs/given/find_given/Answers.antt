@@ -4,7 +4,7 @@ use Rattle.sm_instance.specs.declared.inputs.Input.{Input}
 use Rattle.sm_agents.proofs.FaultLemmas.{on_err}
 use Rattle.sm_answer_given.specs.declared.faults.Which.TheVariants.{Left, Right}
 use Rattle.sm_answer_given.specs.GivenText.{AreGiven}
-use Rattle.sm_pairs.specs.Held.{places_in, CanHold}
+use Rattle.sm_holding.specs.Held.{places_in, CanHold}
 use Rattle.sm_answer_given.specs.Refusing.{IsHoldFault}
 use Rattle.sm_answer_given.specs.Refusing.{IsGivenFault, IsBlocking}
 use Rattle.sm_answer_given.proofs.GivenLemmas.{right_breach, left_blocked, right_blocked}

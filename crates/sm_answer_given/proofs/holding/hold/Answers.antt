@@ -1,8 +1,8 @@
 use Rattle.std.proofs.Common.{sym, arith, subst, refl, true, false}
 use Rattle.std.proofs.lemmas.List.{take_more}
 use Rattle.sm_lists.specs.Pairs.{pair_at}
-use Rattle.sm_pairs.specs.PairsKept.{ArePairsHeld}
-use Rattle.sm_pairs.proofs.PairLemmas.{none_held, free_more, joins_by}
+use Rattle.sm_holding.specs.PairsKept.{ArePairsHeld}
+use Rattle.sm_holding.proofs.PairLemmas.{none_held, free_more, joins_by}
 use Rattle.sm_answer_given.proofs.holding.hold.Goals as goal
 
 pub loop-at-init : goal.loop-at-init

@@ -1,6 +1,6 @@
 use Rattle.std.proofs.Common.{take}
-use Rattle.sm_pairs.specs.Held.{EachCanFollow}
-use Rattle.sm_pairs.specs.PairsKept.{ArePairsHeld}
+use Rattle.sm_holding.specs.Held.{EachCanFollow}
+use Rattle.sm_holding.specs.PairsKept.{ArePairsHeld}
 use Rattle.sm_answer_given.proofs.holding.hold.Given as goal
 
 -- the pairs so far are held

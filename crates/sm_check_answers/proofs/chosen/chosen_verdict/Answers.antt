@@ -1,5 +1,5 @@
 use Rattle.std.proofs.Common.{ℕ, ◌∙◌, ap, replicate, rules, Option, None}
-use Rattle.sm_pairs.proofs.PairLemmas.{none_held}
+use Rattle.sm_holding.proofs.PairLemmas.{none_held}
 use Rattle.sm_check_answers.proofs.WantedLemmas.{chosen_none}
 use Rattle.sm_check_answers.proofs.chosen.chosen_verdict.Goals as goal
 

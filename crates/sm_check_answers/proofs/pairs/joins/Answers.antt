@@ -1,4 +1,4 @@
-use Rattle.sm_pairs.proofs.PairLemmas.{joins_by}
+use Rattle.sm_holding.proofs.PairLemmas.{joins_by}
 use Rattle.sm_check_answers.proofs.pairs.joins.Goals as goal
 
 pub returns : goal.returns

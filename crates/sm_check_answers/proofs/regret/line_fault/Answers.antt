@@ -1,6 +1,6 @@
 use Rattle.std.proofs.Common.{ℕ, sym, subst, append-nil, List}
 use Rattle.std.specs.Prelude.{unwrap_or}
-use Rattle.sm_pairs.specs.PairsKept.{ArePairsHeld}
+use Rattle.sm_holding.specs.PairsKept.{ArePairsHeld}
 use Rattle.sm_check_clauses.proofs.AnswerLemmas.{finds_keeping}
 use Rattle.sm_check_answers.proofs.RegretLemmas.{pair_holds}
 use Rattle.sm_check_answers.proofs.regret.line_fault.Goals as goal

@@ -1,5 +1,5 @@
 use Rattle.std.proofs.Common.{refl}
-use Rattle.sm_pairs.proofs.PairLemmas.{none_held}
+use Rattle.sm_holding.proofs.PairLemmas.{none_held}
 use Rattle.sm_check_answers.proofs.regret.regret_verdict.Goals as goal
 
 pub judge_lines-requires-clause-knows : goal.judge_lines-requires-clause-knows

@@ -1,4 +1,4 @@
-use Rattle.sm_pairs.proofs.PairLemmas.{none_held}
+use Rattle.sm_holding.proofs.PairLemmas.{none_held}
 use Rattle.sm_check_answers.proofs.solving.solve_verdict.Goals as goal
 
 pub judge_lines-requires-clause-knows : goal.judge_lines-requires-clause-knows

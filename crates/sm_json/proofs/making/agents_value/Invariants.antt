@@ -1,7 +1,7 @@
 use Rattle.std.proofs.Common.{◌≡◌, map, take}
 use Rattle.serde_json.specs.View.{view}
 use Rattle.sm_agents.specs.Vectors.{agent_of, agents_of}
-use Rattle.sm_printed.specs.Names.{said_agent}
+use Rattle.sm_instance_lines.specs.Names.{said_agent}
 use Rattle.sm_json.specs.Making.{agent_json}
 use Rattle.sm_json.proofs.making.agents_value.Given as goal
 

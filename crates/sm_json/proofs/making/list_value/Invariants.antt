@@ -2,7 +2,7 @@ use Rattle.std.proofs.Common.{◌≡◌, map, take}
 use Rattle.serde_json.specs.Data.{string}
 use Rattle.serde_json.specs.View.{view}
 use Rattle.sm_agents.specs.Vectors.{agents_of}
-use Rattle.sm_printed.specs.Names.{name_of}
+use Rattle.sm_instance_lines.specs.Names.{name_of}
 use Rattle.sm_json.proofs.making.list_value.Given as goal
 
 -- the values so far

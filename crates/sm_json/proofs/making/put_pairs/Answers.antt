@@ -2,7 +2,7 @@ use Rattle.std.proofs.Common.{◌∙◌, map}
 use Rattle.serde_json.specs.View.{view, members_view}
 use Rattle.serde_json.specs.declared.value.Value.{Array}
 use Rattle.sm_agents.specs.Vectors.{agents_of}
-use Rattle.sm_printed.specs.Names.{said_pair}
+use Rattle.sm_instance_lines.specs.Names.{said_pair}
 use Rattle.sm_json.specs.Making.{pair_json}
 use Rattle.sm_json.proofs.MakeLemmas.{made_all, array_through, put_made, some_mapped}
 use Rattle.sm_json.proofs.making.put_pairs.Goals as goal

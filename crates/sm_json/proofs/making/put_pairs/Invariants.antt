@@ -1,7 +1,7 @@
 use Rattle.std.proofs.Common.{◌≡◌, map, take}
 use Rattle.serde_json.specs.View.{view}
 use Rattle.sm_agents.specs.Vectors.{agents_of}
-use Rattle.sm_printed.specs.Names.{said_pair}
+use Rattle.sm_instance_lines.specs.Names.{said_pair}
 use Rattle.sm_json.specs.Making.{pair_json}
 use Rattle.sm_json.proofs.making.put_pairs.Given as goal
 

@@ -2,7 +2,7 @@ use Rattle.std.proofs.Common.{◌≡◌, map, take}
 use Rattle.std.specs.List.{zip}
 use Rattle.serde_json.specs.View.{view}
 use Rattle.sm_agents.specs.Vectors.{agents_of}
-use Rattle.sm_printed.specs.Names.{said_weight}
+use Rattle.sm_instance_lines.specs.Names.{said_weight}
 use Rattle.sm_json.specs.Making.{weight_json}
 use Rattle.sm_json.proofs.making.put_weights.Given as goal
 

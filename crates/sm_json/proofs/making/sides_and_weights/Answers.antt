@@ -3,9 +3,10 @@ use Rattle.std.specs.List.{zip}
 use Rattle.serde_json.specs.Data.{string, no_members, put}
 use Rattle.serde_json.specs.View.{view, members_view}
 use Rattle.sm_agents.specs.Vectors.{agents_of}
-use Rattle.sm_printed.specs.Names.{said_agent, said_weight}
+use Rattle.sm_instance_lines.specs.Names.{said_agent, said_weight}
 use Rattle.sm_json.specs.Parts.{has_capacities}
-use Rattle.sm_json.specs.Making.{array_of, agent_json, weight_json, kind_name, put_if}
+use Rattle.sm_json.specs.Making.{array_of, agent_json, weight_json, put_if}
+use Rattle.sm_agents.specs.Kinds.{kind_name}
 use Rattle.sm_json.proofs.MakeLemmas.{sides_are_put}
 use Rattle.sm_json.proofs.making.sides_and_weights.Goals as goal
 

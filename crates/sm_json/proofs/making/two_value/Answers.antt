@@ -8,7 +8,7 @@ use Rattle.sm_agents.specs.Sound.{IsPairOf}
 use Rattle.sm_agents.specs.Written.{weighed}
 use Rattle.sm_agents.specs.Vectors.{agent_of, agents_of}
 use Rattle.sm_instance.specs.declared.inputs.Input.TheVariants.{Two}
-use Rattle.sm_printed.specs.Names.{said_order}
+use Rattle.sm_instance_lines.specs.Names.{said_order}
 use Rattle.sm_json.specs.Making.{json_of, two_json, said_by, put_order, conditions_put}
 use Rattle.sm_json.proofs.MakeLemmas.{conditions_are_put, forced_there, forbidden_there, weights_there, if_both}
 use Rattle.sm_json.proofs.SoundLemmas.{two_known}

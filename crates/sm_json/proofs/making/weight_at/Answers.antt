@@ -6,7 +6,7 @@ use Rattle.serde_json.specs.declared.value.Value.{Value}
 use Rattle.sm_agents.specs.Sound.{IsPairOf}
 use Rattle.sm_agents.specs.Vectors.{agents_of}
 use Rattle.sm_agents.specs.Written.{weighed}
-use Rattle.sm_printed.specs.Names.{said_weight}
+use Rattle.sm_instance_lines.specs.Names.{said_weight}
 use Rattle.sm_json.specs.Making.{weight_json}
 use Rattle.sm_json.proofs.MakeLemmas.{small_fits}
 use Rattle.sm_json.proofs.SoundLemmas.{weight_small}

@@ -6,7 +6,7 @@ use Rattle.serde_json.specs.Find.{of_integer}
 use Rattle.serde_json.specs.View.{view}
 use Rattle.sm_agents.specs.Vectors.{agents_of}
 use Rattle.sm_agents.specs.Named.{SaidWeight}
-use Rattle.sm_printed.specs.Names.{said_weight}
+use Rattle.sm_instance_lines.specs.Names.{said_weight}
 use Rattle.sm_json.proofs.MakeLemmas.{pushed, array_made, one_number, two_numbers}
 use Rattle.sm_json.proofs.making.weight_value.Goals as goal
 

@@ -3,7 +3,7 @@ use Rattle.serde_json.specs.Data.{object}
 use Rattle.serde_json.specs.View.{members_view}
 use Rattle.serde_json.proofs.Views.{view-Object}
 use Rattle.sm_agents.specs.Vectors.{agents_of}
-use Rattle.sm_printed.specs.Names.{said_pair}
+use Rattle.sm_instance_lines.specs.Names.{said_pair}
 use Rattle.sm_json.specs.Making.{pair_json, put_if}
 use Rattle.sm_json.proofs.making.with_conditions.Goals as goal
 

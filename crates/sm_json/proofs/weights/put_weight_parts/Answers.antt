@@ -2,7 +2,7 @@ use Rattle.std.proofs.Common.{codes, Some, [], ◌∷◌, ◌++◌, map, option_
 use Rattle.std.specs.Fmt.{signed_decimal}
 use Rattle.serde_json.specs.View.{view}
 use Rattle.sm_text.specs.Lines.{LF}
-use Rattle.sm_printed.specs.Printed.{pair_text}
+use Rattle.sm_instance_lines.specs.Printed.{pair_text}
 use Rattle.sm_json.specs.Values.{weight_in}
 use Rattle.sm_json.specs.Parts.{both_in, second_in}
 use Rattle.sm_json.specs.JsonText.{second_text}

@@ -1,5 +1,5 @@
 use Rattle.std.proofs.Common.{◌≡◌, ℕ, ap, ◌∙◌, length, arith}
-use Rattle.sm_order.specs.Full.{full_order}
+use Rattle.sm_agents.specs.Order.{full_order}
 use Rattle.sm_reader.proofs.numbering.number_both.Goals as goal
 
 pub returns : goal.returns

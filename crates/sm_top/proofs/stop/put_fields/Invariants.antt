@@ -1,6 +1,6 @@
 use Rattle.std.proofs.Common.{◌≡◌, ◌++◌, take, map, ℕ, Vec}
 use Rattle.std.specs.declared.alloc.Global.{Global}
-use Rattle.sm_top.specs.Texts.{spaced}
+use Rattle.sm_report.specs.Fields.{spaced}
 use Rattle.sm_top.proofs.stop.put_fields.Given as goal
 
 -- the fields so far are put

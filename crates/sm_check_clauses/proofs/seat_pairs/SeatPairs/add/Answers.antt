@@ -1,6 +1,6 @@
 use Rattle.std.proofs.Common.{◌<◌, ◌∙◌, length, false, refl, sym, arith}
 use Rattle.std.proofs.lemmas.List.{get_or_default}
-use Rattle.sm_pairs.proofs.HoldingLemmas.{some_there, none_there}
+use Rattle.sm_holding.proofs.HoldingLemmas.{some_there, none_there}
 use Rattle.sm_check_clauses.proofs.SeatPairLemmas.{takes, not_alone}
 use Rattle.sm_check_clauses.proofs.seat_pairs.SeatPairs.add.Goals as goal
 
