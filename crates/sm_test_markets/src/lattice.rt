@@ -1,6 +1,6 @@
 //! Meet and join of pairings that were made by hand, a median, and routes.
 
-use crate::tests::{poset, set};
+use crate::tests::{passed_seat, poset, set};
 use crate::texts::{MEMORY, holds, market, pairing};
 use sm_lattice::{
     LatticeFault, count_members, count_number, join, median_of, meet, number_at_place, route,
@@ -68,12 +68,20 @@ fn a_pairing_that_is_blocked(rt: HostRuntime) {
     );
 }
 
-/// Makes sure of the set whose pairing stands in the middle, where so many of three sets have each rotation.
-fn has_median(rt: &(impl Abort + AllocGlobal), poset: &Poset, holds: &[u32; 2], wanted: &[bool]) {
+/// Makes sure of the set whose pairing stands in the middle, where so many of `total` sets have each rotation, or that there is none.
+fn has_median(
+    rt: &(impl Abort + AllocGlobal),
+    poset: &Poset,
+    holds: &[u32; 2],
+    total: u32,
+    wanted: Option<&[bool]>,
+) {
     assert!(rt; poset.chain().rotations.len() == 2);
-    match median_of(rt.alloc(), poset, holds, 3).expect(rt, MEMORY) {
-        Some(set) => assert!(rt; set.members.as_slice() == wanted),
-        None => assert!(rt; false, "no closed set"),
+    let found = median_of(rt.alloc(), poset, holds, total).expect(rt, MEMORY);
+    match (found, wanted) {
+        (Some(set), Some(wanted)) => assert!(rt; set.members.as_slice() == wanted),
+        (None, None) => {}
+        _ => assert!(rt; false, "another median"),
     }
 }
 
@@ -95,9 +103,14 @@ fn a_median_and_a_route(rt: HostRuntime) {
     let mut holds = [1, 1];
     count_members(&mut holds, &[true, false]);
     assert!(rt; holds == [2, 1]);
-    has_median(&rt, &poset, &holds, &[true, false]);
+    has_median(&rt, &poset, &holds, 3, Some(&[true, false]));
     leads(&rt, &poset, "10", "01", &[Step::Back(0), Step::Forth(1)]);
     leads(&rt, &poset, "11", "11", &[]);
+}
+
+#[test]
+fn no_median_without_a_predecessor(rt: HostRuntime) {
+    has_median(&rt, &poset(&rt, &passed_seat(&rt)), &[0, 1], 1, None);
 }
 
 #[test]

@@ -21,7 +21,7 @@ fn two_by_two(rt: &(impl Abort + AllocGlobal)) -> Market {
 }
 
 /// Proposer 2 can't go past reviewer 0 before that one has given up proposer 0.
-fn passed_seat(rt: &(impl Abort + AllocGlobal)) -> Market {
+pub fn passed_seat(rt: &(impl Abort + AllocGlobal)) -> Market {
     market(rt, "01/10/203/32", "120/01/32/23")
 }
 

@@ -70,6 +70,8 @@ pub enum Behind {
 pub enum Output {
     /// Lines, each with its end.
     Lines(Vec<Line>),
+    /// A text as it stands.
+    Text(String),
     /// One of several answers.
     Either {
         either: Vec<Vec<Line>>,
@@ -82,10 +84,14 @@ pub enum Output {
     },
 }
 
-/// The calls that fail.
+/// The calls that fail, counted from 1.
 #[derive(Clone, Copy, Drop, Deserialize)]
 #[serde(rename_all = "snake_case")]
 pub enum Faults {
+    /// The read of this number.
+    Read(u64),
+    /// The write of this number, which takes at most so many bytes.
+    Write(u64, u32),
     /// Each read in turn, until a run ends with `Done`. The status is that of the runs before it, which write nothing.
     EachRead,
     /// Each of the first five writes in turn, which takes nothing or four bytes.

@@ -8,6 +8,9 @@ use std::alloc::{AllocError, Global};
 /// The bytes of the longest input that is also read in small pieces.
 const SHORT: usize = 4_096;
 
+/// The bytes of a small piece.
+const PIECE: usize = 7;
+
 /// The number of the status `Done`.
 const DONE: u8 = 0;
 
@@ -49,6 +52,12 @@ pub fn judge(
     match case.faults {
         Some(Faults::EachRead) => judge_reads(alloc, case, &before.input),
         Some(Faults::EachWrite) => judge_writes(alloc, case, &before.input),
+        Some(Faults::Read(call)) => {
+            judge_failing(alloc, case, &before.input, Failing::Read(call))
+        }
+        Some(Faults::Write(call, most)) => {
+            judge_failing(alloc, case, &before.input, Failing::Write(call, most))
+        }
         None => judge_whole(alloc, case, before),
     }
 }
@@ -72,7 +81,7 @@ fn judge_whole(
 ) -> Result<Option<String>, AllocError> {
     let whole = before.input.len();
     let pieces = if whole <= SHORT {
-        [1, 7, whole]
+        [1, PIECE, whole]
     } else {
         [whole; 3]
     };
@@ -97,6 +106,7 @@ fn is_right(alloc: Global, case: &Case, ran: &Ran) -> Result<bool, AllocError> {
     match &case.output {
         None => Ok(true),
         Some(Output::Lines(lines)) => Ok(bytes_of(alloc, lines)? == ran.written),
+        Some(Output::Text(text)) => Ok(text.as_bytes() == ran.written.as_slice()),
         Some(Output::Either { either }) => {
             for lines in either {
                 if bytes_of(alloc, lines)? == ran.written {
@@ -117,15 +127,30 @@ fn is_right(alloc: Global, case: &Case, ran: &Ran) -> Result<bool, AllocError> {
     }
 }
 
+/// Judges a case in which one call fails.
+fn judge_failing(
+    alloc: Global,
+    case: &Case,
+    input: &[u8],
+    failing: Failing,
+) -> Result<Option<String>, AllocError> {
+    let ran = run_once(alloc, &case.words, input, PIECE, failing)?;
+    if is_right(alloc, case, &ran)? {
+        Ok(None)
+    } else {
+        Ok(Some(told(alloc, PIECE, &ran)?))
+    }
+}
+
 /// Judges a case in which each read fails in turn.
 fn judge_reads(alloc: Global, case: &Case, input: &[u8]) -> Result<Option<String>, AllocError> {
     for call in 1..MOST_READS {
-        let ran = run_once(alloc, &case.words, input, 7, Failing::Read(call))?;
+        let ran = run_once(alloc, &case.words, input, PIECE, Failing::Read(call))?;
         let is_done = ran.status == DONE;
         let is_as_said = is_done
             || ran.status == case.status && ran.written.is_empty() && ran.reads == call;
         if !is_as_said {
-            return Ok(Some(told(alloc, 7, &ran)?));
+            return Ok(Some(told(alloc, PIECE, &ran)?));
         }
         if is_done {
             return Ok(None);

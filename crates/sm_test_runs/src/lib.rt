@@ -1,15 +1,13 @@
-//! Words of the command line, printed instances, and whole runs of the program over sources and sinks in memory.
+//! Words of the command line, printed instances, and a run of the program over a source and a sink that never fail.
 //!
 //! A contract can't say that a call succeeds where there is memory, so it is tried here, with each fault once.
 #![tactic(auto)]
 
 #[cfg(test)]
-mod json;
-#[cfg(test)]
 mod made;
 #[cfg(test)]
 mod printing;
 #[cfg(test)]
-mod runs;
+mod steady;
 #[cfg(test)]
 mod words;
