@@ -1,7 +1,6 @@
 //! The closed set of a stable matching.
 
 ghost use Rattle.std.specs.Prelude.{◌≡◌, IfOk};
-ghost use Rattle.sm_agents.specs.Written.{Written};
 ghost use Rattle.sm_instance.specs.Stable.{IsStable};
 ghost use Rattle.sm_seats.specs.Seating.{seating_of};
 ghost use Rattle.sm_seats.specs.Correspondence.{IsSeating};
@@ -21,13 +20,11 @@ pub(crate) fn set_for(
     poset: &Poset,
     matching: &Assignment,
 ) -> Result<ClosedSet, AllocError>
-    ghost written: { Written }
-    requires written { written ≡ instance.now }
-    requires seats { seats.now ≡ seating_of written }
-    requires seating { IsSeating written seats.now }
+    requires seats { seats.now ≡ seating_of instance.now }
+    requires seating { IsSeating instance.now seats.now }
     requires market { poset.now.lists ≡ seats.now.market }
-    requires stable { IsStable written matching.now.places.items }
-    ensures { IfOk result (λ set. IsSetOf written poset.now.first.places poset.now.rotations
+    requires stable { IsStable instance.now matching.now.places.items }
+    ensures { IfOk result (λ set. IsSetOf instance.now poset.now.first.places poset.now.rotations
         matching.now.places.items set.members.items) }
 {
     let _count = instance.proposer_count();

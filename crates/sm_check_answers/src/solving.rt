@@ -1,7 +1,6 @@
 //! Answers of `solve` over an instance with two sides.
 
 ghost use Rattle.std.specs.Prelude.{◌≡◌, ℕ, ◌+◌, ◌<◌, ◌^◌, ◌↔◌, ◌∷◌, ◌++◌, [], List, All, Some, length, map, IsTrue, IfOk};
-ghost use Rattle.sm_agents.specs.Written.{Written};
 ghost use Rattle.sm_instance.specs.Stable.{IsStable, IsBestOf};
 ghost use Rattle.sm_seats.specs.Seating.{seating_of};
 ghost use Rattle.sm_holding.specs.Holding.{IsHolding};
@@ -147,11 +146,9 @@ fn is_best(
     side: Side,
     matching: &Assignment,
 ) -> Result<bool, AllocError>
-    ghost written: { Written }
-    requires written { written ≡ instance.now }
-    requires seats { seats.now ≡ seating_of written }
-    requires stable { IsStable written matching.now.places.items }
-    ensures { IfOk result (λ best. IsTrue best ↔ IsBestOf side written matching.now.places.items) }
+    requires seats { seats.now ≡ seating_of instance.now }
+    requires stable { IsStable instance.now matching.now.places.items }
+    ensures { IfOk result (λ best. IsTrue best ↔ IsBestOf side instance.now matching.now.places.items) }
 {
     prove!(instance.proposer_count() < 1 << 24);
     let seated = seats.to_seats(alloc, matching)?;

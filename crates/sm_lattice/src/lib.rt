@@ -26,3 +26,4 @@ pub use median::median_of;
 pub use members::count_members;
 pub use regret::min_regret;
 pub use routes::route;
+pub use sm_theory::Step;

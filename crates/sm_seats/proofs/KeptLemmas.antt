@@ -1,5 +1,5 @@
 -- What is kept of the seats of an instance.
-use Rattle.std.proofs.Common.{◌≡◌, ℕ, ◌<◌, ◌^◌, List, length, get_or, sym, ap, ◌∙◌, arith}
+use Rattle.std.proofs.Common.{◌≡◌, ℕ, ◌<◌, ◌^◌, List, length, get_or, refl, sym, ap, ◌∙◌, arith}
 use Rattle.std.proofs.lemmas.List.{length-map, get_or_read}
 use Rattle.sm_agents.specs.Written.{AgentData, Written}
 use Rattle.sm_agents.specs.Sound.{IsInstance}
@@ -17,6 +17,8 @@ pub seating_kept : {w : Written} → IsInstance w → IsKept (seating_of w)
 seating_kept {w} h =
     let it = is_seating (sound_entries h) in
     record {
+      instance = h;
+      made = refl;
       lists = length-map w.proposers (λ (x : AgentData). x.entries) ∙ sym it.proposers;
       seats = sym it.seats;
       short = λ p. let long = ap length (list_of it p) in omega (arith, long, proposer_row_fits h p);

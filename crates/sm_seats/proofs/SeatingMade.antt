@@ -14,6 +14,6 @@ pub market_made : (w : Written) (proposers reviewers : List (List ℕ)) → prop
 market_made w proposers reviewers a b = rw (a, b, lists_made w) refl
 
 -- and the seating with this market
-pub seating_made : (w : Written) (lists : List (List ℕ)) (market : Lists) (seats : List (ℕ × ℕ)) → lists ≡ lists_of w.proposers → market ≡ seat_market w → seats ≡ seats_of w
-    → record { lists = lists; market = market; seats = seats } ≡ seating_of w
-seating_made w lists market seats a b c = rw (a, b, c) refl
+pub seating_made : (w written : Written) (lists : List (List ℕ)) (market : Lists) (seats : List (ℕ × ℕ)) → written ≡ w → lists ≡ lists_of w.proposers → market ≡ seat_market w → seats ≡ seats_of w
+    → record { written = written; lists = lists; market = market; seats = seats } ≡ seating_of w
+seating_made w written lists market seats a b c d = rw (a, b, c, d) refl

@@ -1,11 +1,14 @@
 -- What is kept of a seating.
 use Rattle.std.specs.Prelude.{◌≡◌, ℕ, ◌<◌, ◌≤◌, ◌^◌, length}
 use Rattle.sm_market.specs.Lists.{row, entry}
-use Rattle.sm_seats.specs.Seating.{Seating, written_place}
+use Rattle.sm_agents.specs.Sound.{IsInstance}
+use Rattle.sm_seats.specs.Seating.{Seating, seating_of, written_place}
 
--- there is a written list for each proposer and a name for each seat, the written lists are short, and each list of seats
--- has seats that are there, and goes along the written list
+-- It is that of its instance. So there is a written list for each proposer and a name for each seat, the written lists are
+-- short, and each list of seats has seats that are there, and goes along the written list.
 pub record IsKept (s : Seating) : Type 0 where
+  pub instance : IsInstance s.written
+  pub made : s ≡ seating_of s.written
   pub lists : length s.lists ≡ length s.market.proposers
   pub seats : length s.seats ≡ length s.market.reviewers
   pub short : (p : ℕ) → length (row s.lists p) < 2 ^ 24

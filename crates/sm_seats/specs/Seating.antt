@@ -1,4 +1,4 @@
--- A market of seats beside the lists that the proposers wrote, and what its places are in these.
+-- A market of seats beside the instance of which it was made, and what its places are there.
 use Rattle.std.specs.Prelude.{ℕ, ◌+◌, List, [], ◌∷◌, ◌++◌, map, length, Option, slice_index_or}
 use Rattle.std.specs.List.{range_with_len}
 use Rattle.std.specs.Option.{option_map}
@@ -7,16 +7,17 @@ use Rattle.sm_market.specs.Lists.{Lists, row, entry, place_of, agents}
 use Rattle.sm_market.specs.Matching.{held}
 use Rattle.sm_seats.specs.SeatMarket.{seat_market, seats_of}
 
--- the lists that the proposers wrote, the market of seats, and for each seat the reviewer, and the seat's number there,
--- from 1
+-- the instance with its lists and capacities, as it is written; the lists that the proposers wrote, the market of seats, and
+-- for each seat the reviewer, and the seat's number there, from 1
 pub record Seating : Type 0 where
+  pub written : Written
   pub lists : List (List ℕ)
   pub market : Lists
   pub seats : List (ℕ × ℕ)
 
 -- the one of an instance
 abbrev pub seating_of : Written → Seating
-seating_of w = record { lists = lists_of w.proposers; market = seat_market w; seats = seats_of w }
+seating_of w = record { written = w; lists = lists_of w.proposers; market = seat_market w; seats = seats_of w }
 
 -- a seat's reviewer, and its number there
 abbrev pub reviewer_of : Seating → ℕ → ℕ

@@ -8,6 +8,7 @@ ghost use Rattle.sm_instance.specs.Crosses.{AreCrossPlacesOf, AreCrossesOf};
 
 use sm_instance::{Cross, Crosses, Instance};
 use std::marker::Model;
+use std::snapshot::Snapshot;
 
 /// An instance beside the cross places of its lists.
 #[derive(Drop)]
@@ -35,6 +36,13 @@ impl<'a> CrossedInstance<'a> {
         ensures { result ≡ instance.now }
     {
         CrossedInstance { instance, crosses }
+    }
+
+    /// The instance, for contracts alone.
+    pub(crate) fn snapshot(&self) -> Snapshot<Instance>
+        ensures { result.value ≡ self.now }
+    {
+        Snapshot::of(self.instance)
     }
 
     /// How many proposers there are.

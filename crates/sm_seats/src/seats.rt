@@ -36,6 +36,7 @@ use sm_market::{Market, Pairing};
 use std::alloc::{AllocError, Global};
 use std::marker::Model;
 use std::rc::Rc;
+use std::snapshot::Snapshot;
 
 /// The seats of an instance with the market of them.
 ///
@@ -43,8 +44,14 @@ use std::rc::Rc;
 /// its reviewer's list without inert entries, and a proposer lists the seats of a reviewer in the reviewer's place, in their
 /// order. Seats are numbered from 0 through all reviewers. It takes memory in proportion to the entries of the instance and
 /// to the entries on the lists of the seats, and others may keep the market too.
-#[derive(Debug, Drop)]
+///
+/// Contracts also see in it the instance of which it was made, with all lists and capacities. Memory holds of these only what
+/// the calls read.
+#[derive(Drop)]
+#[derive_where(Debug)]
 pub struct Seats {
+    #[derive_where(skip)]
+    written: Snapshot<Instance>,
     lists: WrittenLists,
     market: Rc<Market>,
     seats: Vec<(u32, u32)>,
@@ -56,9 +63,9 @@ impl Model for Seats {
 
     ghost Value = { Seating };
 
-    ghost view = { λ s. record { lists = s.lists; market = s.market.value; seats = s.seats.items } };
+    ghost view = { λ s. record { written = s.written.value; lists = s.lists; market = s.market.value; seats = s.seats.items } };
 
-    ghost invariant = { λ s. IsKept (record { lists = s.lists; market = s.market.value; seats = s.seats.items }) };
+    ghost invariant = { λ s. IsKept (record { written = s.written.value; lists = s.lists; market = s.market.value; seats = s.seats.items }) };
 }
 
 impl Seats {
@@ -204,24 +211,32 @@ impl Seats {
     }
 
     /// The pairing in which each reviewer's proposers sit in its order of preference, from its first seat on. The
-    /// assignment has to be a matching of the instance of which these are the seats. Takes time and memory in proportion
-    /// to the agents and entries of the market.
+    /// assignment has to be a matching of the instance of which these are the seats: one item for each proposer, each place on
+    /// its written list, and no breach. Takes time and memory in proportion to the agents and entries of the market.
     ///
     /// # Errors
     ///
     /// `AllocError` where memory ran out, and only then.
     pub fn to_seats(&self, alloc: Global, a: &Assignment) -> Result<Pairing, AllocError>
+        requires { IsMatching self.now.written a.now.places.items }
+        ensures pairing { IfOk result (λ m. IsPairingOf self.now.market m) }
+        ensures places { IfOk result (λ m. m.places.proposers
+            ≡ places_taken self.now.written a.now.places.items) }
+    {
+        let market = self.market.as_ref();
+        let places = self.places_taken(alloc, a)?;
+        Pairing::held(alloc, market, &places)
+    }
+
+    /// The places that the proposers take so.
+    fn places_taken(&self, alloc: Global, a: &Assignment) -> Result<Vec<Option<u32>>, AllocError>
         ghost written: { Written }
         requires instance { IsInstance written }
         requires seats { self.now ≡ seating_of written }
         requires matching { IsMatching written a.now.places.items }
-        ensures pairing { IfOk result (λ m. IsPairingOf self.now.market m) }
-        ensures places { IfOk result (λ m. m.places.proposers
-            ≡ places_taken written a.now.places.items) }
+        ensures { IfOk result (λ places. places.items ≡ places_taken written a.now.places.items) }
     {
-        let market = self.market.as_ref();
-        let places = taken_places(alloc, &self.lists, market, &self.seats, a)?;
-        Pairing::held(alloc, market, &places)
+        taken_places(alloc, &self.lists, self.market.as_ref(), &self.seats, a)
     }
 }
 
@@ -304,7 +319,6 @@ fn seats_held(
     ensures seats { IfOk result (λ seats. seats ≡ seating_of instance.now) }
     ensures seating { IfOk result (λ seats. IsSeating instance.now seats) }
 {
-    let _ = instance;
     let market = Market::held(
         proposers.lists,
         reviewers.lists,
@@ -314,6 +328,7 @@ fn seats_held(
     let market = Rc::new(alloc, market)?;
     let lists = WrittenLists::of(beside, market.clone()?);
     Ok(Seats {
+        written: instance.snapshot(),
         lists,
         market,
         seats: reviewers.seats,

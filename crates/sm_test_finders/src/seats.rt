@@ -1,7 +1,6 @@
 //! Seats of hospitals, and a matching that goes to them and back.
 
 ghost use Rattle.std.specs.Prelude.{◌≡◌, ◌<◌, length};
-ghost use Rattle.sm_agents.specs.Written.{Written};
 ghost use Rattle.sm_agents.specs.Sound.{IsInstance};
 ghost use Rattle.sm_instance.specs.Matching.{IsMatching};
 ghost use Rattle.sm_seats.specs.Seating.{seating_of};
@@ -94,10 +93,8 @@ fn takes_seats(
     a: &Assignment,
     places: [Option<u32>; 3],
 )
-    ghost written: { Written }
-    requires instance { IsInstance written }
-    requires seats { seats.now ≡ seating_of written }
-    requires matching { IsMatching written a.now.places.items }
+    requires seats { seats.now ≡ seating_of instance.now }
+    requires matching { IsMatching instance.now a.now.places.items }
 {
     assert!(rt; instance.proposer_count() == 3);
     let pairing = seats.to_seats(rt.alloc(), a).expect(rt, MEMORY);

@@ -1,4 +1,4 @@
-use Rattle.std.proofs.Common.{pos, replicate, ◌≡◌, ℕ, ◌-◌, ◌++◌, ◌∷◌, [], ◌∙◌, List, ap, sym, subst, arith, get_or, length, Some, All}
+use Rattle.std.proofs.Common.{pos, replicate, ◌≡◌, ℕ, ◌++◌, ◌∷◌, [], ◌∙◌, List, ap, sym, subst, arith, length, Some, All}
 use Rattle.std.proofs.lemmas.List.Elements.{All-push}
 use Rattle.std.specs.List.{range_with_len}
 use Rattle.std.proofs.lemmas.List.FromFn.{map-range_with_len_more, length-range_with_len}

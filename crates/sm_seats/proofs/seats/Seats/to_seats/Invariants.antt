@@ -1,4 +1,4 @@
 use Rattle.sm_seats.proofs.seats.Seats.to_seats.Given as goal
 
-abbrev pub ghost-taken_places : goal.ghost-taken_places
-ghost-taken_places g a = g.written
+abbrev pub ghost-places_taken : goal.ghost-places_taken
+ghost-places_taken a = a.self.now.written
