@@ -50,13 +50,13 @@ def in_order(crates):
     done = {}
 
     def put(name):
-        for it in crates[name]:
-            put(it)
-        done[name] = None
+        if name not in done:
+            for it in crates[name]:
+                put(it)
+            done[name] = None
 
     for name in crates:
-        if name not in done:
-            put(name)
+        put(name)
     return list(done)
 
 
