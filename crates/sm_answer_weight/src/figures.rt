@@ -47,7 +47,7 @@ impl Answer for FlowLines<'_> {
     }
 }
 
-/// One of the flows.
+/// The amounts of the first flow or of the second.
 fn flow_in(found: &Lightest, level: FlowLevel) -> &[FlowLine]
     ensures { result.now ≡ flow_in level found.now }
 {

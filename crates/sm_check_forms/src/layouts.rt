@@ -27,7 +27,7 @@ pub struct BlockTurn {
     pub number: u32,
 }
 
-/// A part of a layout.
+/// Lines that stand together in a layout: one, or any number of them.
 #[derive(Clone, Copy, Debug)]
 pub enum LayoutPart {
     /// One line with this keyword.

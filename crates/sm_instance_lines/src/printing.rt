@@ -60,7 +60,7 @@ pub(crate) fn put_text_at(
     }
 }
 
-/// Puts a line.
+/// Puts what a line says of the instance, without its end.
 fn put_line(into: &mut LineWriter, input: &Input, line: InstanceLine) -> Result<(), AllocError>
     requires { NamesAgents input.now line }
     ensures { PutsText into.old into.new (line_text input.now line) result }

@@ -255,7 +255,7 @@ fn name_at(agents: &[Agent], a: u32) -> &[u8]
     &agents[a as usize].name
 }
 
-/// The value of a name.
+/// A name as a string of JSON; its bytes are ASCII.
 #[tactic(auto, using(crate::proofs::MakeLemmas::name_utf8))]
 fn name_value(alloc: Global, name: &[u8]) -> Result<Value, AllocError>
     requires { is_name name.now ≡ true }

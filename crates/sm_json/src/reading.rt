@@ -135,7 +135,7 @@ fn put_sides(
     put_last(into)
 }
 
-/// Puts the last line.
+/// Puts `end` and LF, with which every text of an instance ends.
 fn put_last(into: &mut LineWriter) -> Result<(), JsonFault>
     ensures { Adds into.old.bytes into.new.bytes (Some (codes "end\n")) result }
 {

@@ -69,7 +69,7 @@ pub fn read_instance(alloc: Global, bytes: &[u8]) -> Result<Read, TextFault>
     read_lines(alloc, bytes, header)
 }
 
-/// The header.
+/// What the first line that isn't blank says, and where the lines behind it begin.
 fn read_header(alloc: Global, bytes: &[u8]) -> Result<Header, TextFault>
     requires { length bytes.now ≤ most_bytes }
     ensures header { IfOk result (λ header. IsHeaded bytes.now header) }
@@ -283,7 +283,7 @@ fn finished(alloc: Global, hash: TextHash, kind: Kind, draft: Draft<'_>) -> Resu
     }
 }
 
-/// The persons.
+/// The roommates of a draft in which every name has its line.
 fn persons(alloc: Global, hash: TextHash, draft: Draft<'_>) -> Result<Input, AllocError>
     requires ready { IsReady Kind.Roommates draft }
     requires known { least (unknown_lines Kind.Roommates (said_of Kind.Roommates draft)) ≡ None }

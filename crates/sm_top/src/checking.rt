@@ -105,7 +105,7 @@ fn verdict_lines<'a>(input: &'a Input, verdict: Verdict) -> VerdictLines<'a>
     }
 }
 
-/// The line of a verdict.
+/// `yes`, or `no` with the line at which a clause fails and why.
 fn verdict_line(verdict: Verdict) -> Line
     ensures line { line_of result ≡ verdict_line verdict }
     ensures sound { (input : Input) → IsLineOf input (line_of result) }

@@ -17,7 +17,7 @@ const LEAST_SIZE: u32 = 1;
 
 pub(crate) const GREATEST_SIZE: u32 = 2_048;
 
-/// A command.
+/// What the first word asks for.
 #[derive(Clone, Copy, Debug, PartialEq, Eq)]
 pub(crate) enum Command {
     Solve,
@@ -38,7 +38,7 @@ pub(crate) enum Command {
     Export,
 }
 
-/// An operand.
+/// What stands before the `=` of a further word.
 #[derive(Clone, Copy, Debug, PartialEq, Eq)]
 enum Operand {
     Side,
