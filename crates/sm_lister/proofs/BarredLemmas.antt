@@ -5,7 +5,7 @@ use Rattle.sm_lists.proofs.Counting.{lt_or_le, eq_or_ne}
 use Rattle.sm_market.specs.Lists.{row}
 use Rattle.sm_theory.specs.ClosedSets.{IsMember}
 use Rattle.sm_theory.specs.Vectors.{IsOrder}
-use Rattle.sm_board.specs.Board.{Board, IsBoard, firsts, leave, stay, level, IsClosedIn, Gates}
+use Rattle.sm_board.specs.Board.{Board, IsBoard, firsts, leave, stay, level, IsInside, IsClosedIn, Gates}
 use Rattle.sm_board.specs.Courses.{Course, IsCourse, Held, IsHeld, IsBroken}
 use Rattle.sm_board.specs.Walks.{IsUp, NoneFrom}
 use Rattle.sm_board.proofs.BoardLemmas.{members_are_first, stays_in, never_falls}
@@ -126,6 +126,16 @@ bars_more {t} {C} {before} {after} {written} {x} {position} w f places looked co
             let at = new k later few in
             subst (λ q. IsBroken t (q + 1) C D) (sym at) (f.barred k later few (omega (arith, at)) D d m)
       ];
+}
+
+-- where fewer are held no more may enter
+pub bars_fewer : {t : Course} {C D : List Bool} {bars : Bars} → IsInside C D → AreBars t D bars → AreBars t C bars
+bars_fewer inside w = record {
+  room = w.room;
+  few = w.few;
+  barred = λ k less on E e m.
+      let b = w.barred k less on E e m in
+      record { rotation = b.rotation; member = b.member; new = λ in_it. b.new (inside b.rotation in_it); position = b.position; early = b.early; changes = b.changes };
 }
 
 -- where none were looked at all is right

@@ -1,21 +1,30 @@
 -- Where a walk stands: marks as lengths of the log.
 use Rattle.std.proofs.Common.{◌≡◌, ◌≢◌, ◌⊎◌, ℕ, ◌+◌, ◌<◌, ◌≤◌, inl, inr, arith, refl, sym, ap, ◌∙◌, subst, List, length, Bool, false, slice_index, slice_index_or, set, take, Option, None, Some, unwrap_or}
-use Rattle.std.proofs.lemmas.List.{ext_get_or, take-take, take_all, length-take, length-set, get_or-set_same, get_or-set_other}
+use Rattle.std.proofs.lemmas.List.{ext_get_or, take-take, take_all, length-take, get_or-take, length-set, get_or-set_same, get_or-set_other}
 use Rattle.sm_lists.proofs.ResultLemmas.{same_bool}
 use Rattle.sm_lists.proofs.Counting.{eq_or_ne, lt_or_le}
+use Rattle.sm_theory.specs.ClosedSets.{IsMember}
 use Rattle.sm_theory.specs.Vectors.{IsOrder}
-use Rattle.sm_board.specs.Board.{IsBoard, Board, level, IsClosedIn, Gates, Fits, IsLeast}
+use Rattle.sm_board.specs.Board.{IsBoard, Board, level, IsInside, IsClosedIn, Gates, Fits, IsLeast}
 use Rattle.sm_board.specs.Growing.{IsLogOf}
 use Rattle.sm_board.specs.Courses.{Course, Held, IsHeld}
 use Rattle.sm_least.specs.Gates.{AreGatesOf}
 use Rattle.sm_board.specs.Walks.{vector, AgreesUpTo, IsMark, IsNextUp, NoneFrom, IsVectorWalk, HasFirstVector, IsRaised, IsNotRaised}
-use Rattle.sm_board.proofs.HeldLemmas.{one_log}
+use Rattle.sm_board.proofs.HeldLemmas.{one_log, contained_at}
 use Rattle.sm_board.proofs.WalkLemmas.{vector_at, vector_long, up_where_raised, none_where_not_raised, next_up_is_first, mark_before, mark_behind, walk_begins, follow_on, follow_ends}
 use Rattle.sm_lister.specs.Walking.{AreLogMarks, IsMadeFor, IsUnderWay, IsVectorReached, IsMarkedAlong}
 
 -- a log has one set
 pub one_set : {b : Board} {log : List ℕ} {C D : List Bool} → IsLogOf b log C → IsLogOf b log D → C ≡ D
 one_set {b} {log} {C} {D} c d = ext_get_or false C D (c.one_each ∙ sym d.one_each) (λ k _. same_bool (slice_index_or C k false) (slice_index_or D k false) (one_log c d k) (one_log d c k))
+
+-- the set of the front of a log is inside that of the log
+pub front_inside : {b : Board} {log : List ℕ} {C D : List Bool} (n : ℕ) → IsLogOf b (take n log) C → IsLogOf b log D → IsInside C D
+front_inside {b} {log} {C} {D} n c d x m =
+    let has = c.all x m in
+    let few : has.0 < n = omega (arith, has.1, length-take n log) in
+    let at : slice_index log has.0 ≡ x = sym (get_or-take n log has.0 0 few) ∙ contained_at (take n log) x has in
+    subst (IsMember D) at (d.each has.0 (omega (arith, has.1, length-take n log)))
 
 -- the levels held are the vector
 pub levels_are : {b : Board} {h : Held} → IsHeld b h → h.levels ≡ vector b h.set

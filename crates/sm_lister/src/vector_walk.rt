@@ -2,7 +2,7 @@
 
 ghost use Rattle.std.specs.Prelude.{◌≡◌, ℕ, ◌+◌, ◌-◌, ◌<◌, ◌≤◌, true, false, List, Bool, Option, None, Some, length, take, slice_index};
 ghost use Rattle.sm_theory.specs.Vectors.{IsOrder};
-ghost use Rattle.sm_board.specs.Board.{Fits, IsLeast, level};
+ghost use Rattle.sm_board.specs.Board.{Fits, IsLeast, IsInside, level};
 ghost use Rattle.sm_board.specs.Growing.{IsLogOf};
 ghost use Rattle.sm_board.specs.Courses.{IsHeld};
 ghost use Rattle.sm_least.specs.Gates.{AreGatesOf};
@@ -135,7 +135,6 @@ fn try_last(course: &Course, gates: &Gates, held: &mut Held, walk: &mut VectorWa
     if walk.bars.is_barred(course, held, walk.depth) {
         return false;
     }
-    walk.bars.forget();
     if !step(
         course,
         gates,
@@ -222,6 +221,7 @@ fn go_up(
         vector.now i }
     ensures stands { result ≡ false → IsMark course.now.board gates.now course.now.order vector.now
         (i + 1) held.new.set }
+    ensures fewer { result ≡ false → IsInside held.new.set held.old.set }
 {
     let _board = course.board();
     let p = course.proposer_at(i);
@@ -243,6 +243,7 @@ fn step(
         vector.new marks.new }
     ensures under_way { result ≡ false → IsUnderWay course.now gates.now held.new vector.new
         marks.new i }
+    ensures fewer { result ≡ false → IsInside held.new.set held.old.set }
     ensures same { result ≡ false → vector.new ≡ vector.old }
 {
     let _board = course.board();

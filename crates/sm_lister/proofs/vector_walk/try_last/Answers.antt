@@ -1,8 +1,8 @@
-use Rattle.std.proofs.Common.{◌≡◌, ◌∙◌, ◌-◌, ap, subst, sym, refl, length, arith}
+use Rattle.std.proofs.Common.{◌≡◌, ◌-◌, ap, subst, sym, refl, length, arith}
 use Rattle.sm_lists.proofs.ResultLemmas.{take-append_at_length}
 use Rattle.sm_lister.specs.Walking.{IsUnderWay}
 use Rattle.sm_lister.proofs.WalkingLemmas.{under_way_same}
-use Rattle.sm_lister.proofs.BarredLemmas.{under_way_barred}
+use Rattle.sm_lister.proofs.BarredLemmas.{under_way_barred, bars_fewer}
 use Rattle.sm_lister.proofs.NextLemmas.{goes_on, skipped}
 use Rattle.sm_lister.proofs.vector_walk.try_last.Goals as goal
 
@@ -35,6 +35,8 @@ returns-clause-walking c =
     let long : length c.step.new.vector ≡ c.args.walk.now.vector.len = omega (arith, new.made.level_each, old.level_each, ap length c.deref_mut.ensures.value, c.deref_mut.ensures.len) in
     let each : length c.step.new.marks ≡ c.args.walk.now.marks.len = omega (arith, new.made.mark_each, old.mark_each, ap length c.deref_mut-2.ensures.value, c.deref_mut-2.ensures.len) in
     let same = under_way_same new (take-append_at_length c.args.walk.now.vector.len c.step.new.vector _ long) (take-append_at_length c.args.walk.now.marks.len c.step.new.marks _ each) in
-    goes_on c.args.walk.now _ c.requires.walking c.requires.over c.requires.over refl refl
-    (record { place_each = ap (λ v. length v.items) c.forget.ensures.places ∙ c.is_barred.ensures.bars.room.place_each; looked_each = ap (λ v. length v.items) c.forget.ensures.looked ∙ c.is_barred.ensures.bars.room.looked_each; position_each = ap (λ v. length v.items) c.forget.ensures.positions ∙ c.is_barred.ensures.bars.room.position_each })
+    goes_on c.args.walk.now _ c.requires.walking c.requires.over c.requires.over refl refl c.is_barred.ensures.bars.room
     (subst (IsUnderWay c.args.course.now c.args.gates.now c.step.new.held _ _) (sym c.proposers-walk.ensures.proposers) same)
+
+pub returns-then-not-step-clause-bars : goal.returns-then-not-step-clause-bars
+returns-then-not-step-clause-bars c = λ _. bars_fewer (c.step.ensures.fewer c.if-not-step.true) c.is_barred.ensures.bars
