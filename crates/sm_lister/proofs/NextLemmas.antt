@@ -1,17 +1,21 @@
 -- What a walk finds, as level vectors of the stable matchings that conditions allow.
-use Rattle.std.proofs.Common.{◌≡◌, if◌then◌else◌, true, ℕ, sym, ap, ◌∙◌, subst, List, Bool, Option, None, Some}
+use Rattle.std.proofs.Common.{◌≡◌, if◌then◌else◌, true, false, ℕ, refl, length, slice_index, slice_index_or, arith, ◌<◌, sym, ap, ◌∙◌, subst, List, Bool, Option, None, Some}
 use Rattle.sm_theory.specs.ClosedSets.{IsClosed, matching_of}
 use Rattle.sm_theory.specs.Vectors.{IsBefore, IsAllowedVector, level_vector_of}
 use Rattle.sm_theory.specs.Listings.{IsNextListed, IsNoneBehind}
 use Rattle.sm_poset.specs.Posets.{RotationPoset}
-use Rattle.sm_board.specs.Board.{Gates, Fits}
+use Rattle.sm_board.specs.Board.{IsBoard, Gates, Fits}
 use Rattle.sm_board.specs.BoardOf.{AreGates}
-use Rattle.sm_board.specs.Courses.{Course}
+use Rattle.sm_board.specs.Courses.{Course, Held}
 use Rattle.sm_board.specs.Walks.{vector, NoneFrom, HasFirstVector, IsFirstAbove}
 use Rattle.sm_board.proofs.BoardSets.{gates_mean_conditions}
 use Rattle.sm_board.proofs.WalkBridge.{walk_is_next, vector_is}
 use Rattle.sm_lister.specs.declared.vector_walk.VectorWalk.{VectorWalk}
-use Rattle.sm_lister.specs.Walking.{cursor_of, IsFirstSetBehind, NoneLeft}
+use Rattle.std.proofs.lemmas.Bool.{false≢true}
+use Rattle.std.proofs.lemmas.List.{get_or_default}
+use Rattle.sm_lister.proofs.SkipLemmas.{under_way_skip}
+use Rattle.sm_lister.specs.Walking.{cursor_of, IsFirstSetBehind, NoneLeft, AreSkips, IsUnderWay, IsVectorReached, IsKeptWalk}
+use Rattle.sm_lister.specs.Barred.{HasRoom}
 use Rattle.sm_lister.specs.Kept.{IsGoing}
 
 module _ {poset : RotationPoset} {levels : List (List ℕ)} {forced forbidden : List (ℕ × ℕ)} {t : Course} {g : Gates} (w : IsGoing poset levels forced forbidden t g) where
@@ -44,3 +48,39 @@ module _ {poset : RotationPoset} {levels : List (List ℕ)} {forced forbidden : 
 -- where a vector was reached it is the cursor
 pub cursor_is : (w : VectorWalk) {v : List ℕ} → w.given ≡ true → w.vector.items ≡ v → cursor_of w ≡ Some v
 cursor_is w {v} given is = ap (λ given. if given then Some w.vector.items else None) given ∙ ap Some is
+
+-- where what is reached is behind a walk's vector, the walk has one
+pub reached_cursor : {t : Course} {g : Gates} {h k : Held} {v marks : List ℕ} (w : VectorWalk) → IsKeptWalk t g h w → w.fresh ≡ false → IsVectorReached t g (Some w.vector.items) k v marks → (w.given ≡ true) × IsVectorReached t g (cursor_of w) k v marks
+reached_cursor {t} {g} {h} {k} {v} {marks} w kept over r = go w.given refl
+  where
+    go : (x : Bool) → w.given ≡ x → (w.given ≡ true) × IsVectorReached t g (cursor_of w) k v marks
+    go true e = (e, subst (λ x. IsVectorReached t g (if x then Some w.vector.items else None) k v marks) (sym e) r)
+    go false e = absurd (kept.nothing over e k.set r.fits)
+
+-- where the depth is 0 none is left
+pub none_left : {t : Course} {g : Gates} {h : Held} (w : VectorWalk) → IsKeptWalk t g h w → w.fresh ≡ false → w.depth ≡ 0 → NoneLeft t g (cursor_of w)
+none_left {t} {g} {h} w kept over zero = go w.given refl
+  where
+    go : (x : Bool) → w.given ≡ x → NoneLeft t g (cursor_of w)
+    go true e = subst (λ x. NoneLeft t g (if x then Some w.vector.items else None)) (sym e) (subst (NoneFrom t.board g t.order w.vector.items) zero (kept.under_way over).none)
+    go false e = subst (λ x. NoneLeft t g (if x then Some w.vector.items else None)) (sym e) (kept.nothing over e)
+
+-- a later step leaves a walk under way from the depth that it comes to
+pub goes_on : {t : Course} {g : Gates} {h k : Held} (old new : VectorWalk) → IsKeptWalk t g h old → old.fresh ≡ false → new.fresh ≡ false → new.given ≡ old.given → new.skip ≡ old.skip → HasRoom t new.bars → IsUnderWay t g k new.vector.items new.marks.items new.depth → IsKeptWalk t g k new
+goes_on {t} {g} {h} {k} old new kept was over given skip room w = record {
+  made = w.made;
+  skip_each = ap (λ s. length s.items) skip ∙ kept.skip_each;
+  skips = subst (λ s. AreSkips t.board t.order s.items) (sym skip) kept.skips;
+  room = room;
+  least = λ yes. absurd (false≢true (sym over ∙ yes));
+  under_way = λ _. w;
+  nothing = λ _ no. kept.nothing was (sym given ∙ no);
+}
+
+-- a walk goes on from the skip of its depth
+pub skipped : {t : Course} {g : Gates} {h : Held} (w : VectorWalk) (below : ℕ) → IsBoard t.board → IsKeptWalk t g h w → w.fresh ≡ false → below ≡ slice_index_or w.skip.items w.depth below → IsUnderWay t g h w.vector.items w.marks.items below
+skipped {t} {g} {h} w below board kept over is =
+    let under = kept.under_way over in
+    let few : w.depth < length w.skip.items = let a = under.within in omega (arith, kept.skip_each) in
+    subst (IsUnderWay t g h w.vector.items w.marks.items) (get_or_default w.skip.items w.depth 0 below few ∙ sym is)
+    (under_way_skip (slice_index w.skip.items w.depth) board under (kept.skips w.depth few))

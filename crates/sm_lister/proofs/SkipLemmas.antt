@@ -42,5 +42,7 @@ under_way_skip {t} {g} {h} {v} {marks} {d} s board w skip = record {
   made = w.made;
   within = let a = w.within in let b = skip.low in omega arith;
   are = marks_fewer s skip.low w.are;
+  closed = w.closed;
+  agrees = λ j x. w.agrees j (let b = skip.low in omega arith);
   none = none_back board w (d - s) s (let b = skip.low in omega arith) skip.none;
 }

@@ -3,13 +3,13 @@ use Rattle.std.proofs.Common.{◌≡◌, ◌⊎◌, ℕ, ◌+◌, ◌<◌, inl, 
 use Rattle.std.proofs.lemmas.Bool.{false≢true}
 use Rattle.sm_lists.proofs.Counting.{less_same_more}
 use Rattle.sm_theory.specs.Vectors.{IsOrder, AreInRange}
-use Rattle.sm_board.specs.Board.{IsFirstChange, Gates, Fits, IsLeast}
+use Rattle.sm_board.specs.Board.{IsFirstChange, IsClosedIn, Gates, Fits, IsLeast}
 use Rattle.sm_least.specs.Searches.{Search, IsSearch}
 use Rattle.sm_board.specs.Courses.{Course, IsCourse, Held, IsHeld}
 use Rattle.sm_least.specs.Gates.{AreUnbounded, AreGatesOf}
 use Rattle.sm_least.proofs.SearchLemmas.{nothing_excluded}
 use Rattle.sm_lister.specs.declared.vector_walk.VectorWalk.{VectorWalk}
-use Rattle.sm_lister.specs.Walking.{AreSkips, AreFirstChanges, SkipsNoFirstChange, IsKeptWalk}
+use Rattle.sm_lister.specs.Walking.{AreSkips, IsMadeFor, IsUnderWay, AreFirstChanges, SkipsNoFirstChange, IsKeptWalk}
 use Rattle.sm_lister.specs.Kept.{IsLister}
 
 -- a rotation changes the level first at no other position than its own
@@ -35,13 +35,24 @@ are_skips {t} changes skip course order each turned long skips d x = record {
       false≢true (sym ((skips d x).1 j le less) ∙ turned y j few (omega arith) (first_is y j course few on f));
 }
 
+-- where nothing fits a walk that has made no step is under way from no position on
+pub under_way_none : {t : Course} {g : Gates} {h : Held} {v marks : List ℕ} → IsMadeFor t g h v marks → IsClosedIn t.board h.set → ((D : List Bool) → Fits t.board g D → ⊥) → IsUnderWay t g h v marks 0
+under_way_none made closed none = record {
+  made = made;
+  within = omega arith;
+  are = record { few = λ j x. absurd (omega arith); rising = λ j k a x. absurd (omega arith); are = λ j C x. absurd (omega arith) };
+  closed = closed;
+  agrees = λ j x. absurd (omega arith);
+  none = λ j D le less up. none D up.fits;
+}
+
 -- where no step was made yet a lister is one of the search that began
 pub is_started : {P S : Search} {n : ℕ} {forced forbidden : List (ℕ × ℕ)} {order : List ℕ} {any : Bool} (walk : VectorWalk) → P ≡ S → IsSearch S → n ≡ length S.poset.lists.proposers → AreInRange n forced → AreUnbounded S.course.board forced forbidden S.gates → IsOrder n order → S.course.order ≡ order
     → (any ≡ true → IsLeast (Fits S.course.board S.gates) S.held.set) → (any ≡ false → (D : List Bool) → Fits S.course.board S.gates D → ⊥)
-    → ((g : Gates) (h : Held) → IsHeld P.course.board h → AreGatesOf P.course.board g → (any ≡ true → IsLeast (Fits P.course.board g) h.set) → (any ≡ false → (D : List Bool) → Fits P.course.board g D → ⊥) → IsKeptWalk P.course g h walk)
+    → ((g : Gates) (h : Held) → IsHeld P.course.board h → IsClosedIn P.course.board h.set → AreGatesOf P.course.board g → (any ≡ true → IsLeast (Fits P.course.board g) h.set) → (any ≡ false → (D : List Bool) → Fits P.course.board g D → ⊥) → IsKeptWalk P.course g h walk)
     → IsLister P.poset P.levels forced forbidden P.course P.gates P.held walk false
 is_started {P} {S} {n} {forced} {forbidden} {order} {any} walk e s count range gates o is least none walks =
-    subst (λ P. ((g : Gates) (h : Held) → IsHeld P.course.board h → AreGatesOf P.course.board g → (any ≡ true → IsLeast (Fits P.course.board g) h.set) → (any ≡ false → (D : List Bool) → Fits P.course.board g D → ⊥) → IsKeptWalk P.course g h walk) → IsLister P.poset P.levels forced forbidden P.course P.gates P.held walk false) (sym e)
+    subst (λ P. ((g : Gates) (h : Held) → IsHeld P.course.board h → IsClosedIn P.course.board h.set → AreGatesOf P.course.board g → (any ≡ true → IsLeast (Fits P.course.board g) h.set) → (any ≡ false → (D : List Bool) → Fits P.course.board g D → ⊥) → IsKeptWalk P.course g h walk) → IsLister P.poset P.levels forced forbidden P.course P.gates P.held walk false) (sym e)
     (λ walks. record {
       going = record {
         board = s.board;
@@ -52,7 +63,7 @@ is_started {P} {S} {n} {forced} {forbidden} {order} {any} walk e s count range g
         bounds = nothing_excluded gates.low gates.high s.board gates.wide;
         order = subst (λ n. IsOrder n S.course.order) count (subst (IsOrder n) (sym is) o);
       };
-      walking = walks S.gates S.held s.held s.gates least none;
+      walking = walks S.gates S.held s.held s.closed s.gates least none;
       fits = λ no. absurd (false≢true no);
       reached = λ no. absurd (false≢true no);
     }) walks

@@ -1,21 +1,30 @@
 -- Where a walk stands: marks as lengths of the log.
 use Rattle.std.proofs.Common.{◌≡◌, ◌≢◌, ◌⊎◌, ℕ, ◌+◌, ◌<◌, ◌≤◌, inl, inr, arith, refl, sym, ap, ◌∙◌, subst, List, length, Bool, false, slice_index, slice_index_or, set, take, Option, None, Some, unwrap_or}
-use Rattle.std.proofs.lemmas.List.{ext_get_or, take-take, take_all, length-take, length-set, get_or-set_same, get_or-set_other}
+use Rattle.std.proofs.lemmas.List.{ext_get_or, take-take, take_all, length-take, get_or-take, length-set, get_or-set_same, get_or-set_other}
 use Rattle.sm_lists.proofs.ResultLemmas.{same_bool}
 use Rattle.sm_lists.proofs.Counting.{eq_or_ne, lt_or_le}
+use Rattle.sm_theory.specs.ClosedSets.{IsMember}
 use Rattle.sm_theory.specs.Vectors.{IsOrder}
-use Rattle.sm_board.specs.Board.{IsBoard, Board, level, Gates, Fits, IsLeast}
+use Rattle.sm_board.specs.Board.{IsBoard, Board, level, IsInside, IsClosedIn, Gates, Fits, IsLeast}
 use Rattle.sm_board.specs.Growing.{IsLogOf}
 use Rattle.sm_board.specs.Courses.{Course, Held, IsHeld}
 use Rattle.sm_least.specs.Gates.{AreGatesOf}
-use Rattle.sm_board.specs.Walks.{vector, IsMark, IsNextUp, NoneFrom, IsVectorWalk, HasFirstVector, IsRaised, IsNotRaised}
-use Rattle.sm_board.proofs.HeldLemmas.{one_log}
+use Rattle.sm_board.specs.Walks.{vector, AgreesUpTo, IsMark, IsNextUp, NoneFrom, IsVectorWalk, HasFirstVector, IsRaised, IsNotRaised}
+use Rattle.sm_board.proofs.HeldLemmas.{one_log, contained_at}
 use Rattle.sm_board.proofs.WalkLemmas.{vector_at, vector_long, up_where_raised, none_where_not_raised, next_up_is_first, mark_before, mark_behind, walk_begins, follow_on, follow_ends}
 use Rattle.sm_lister.specs.Walking.{AreLogMarks, IsMadeFor, IsUnderWay, IsVectorReached, IsMarkedAlong}
 
 -- a log has one set
 pub one_set : {b : Board} {log : List ℕ} {C D : List Bool} → IsLogOf b log C → IsLogOf b log D → C ≡ D
 one_set {b} {log} {C} {D} c d = ext_get_or false C D (c.one_each ∙ sym d.one_each) (λ k _. same_bool (slice_index_or C k false) (slice_index_or D k false) (one_log c d k) (one_log d c k))
+
+-- the set of the front of a log is inside that of the log
+pub front_inside : {b : Board} {log : List ℕ} {C D : List Bool} (n : ℕ) → IsLogOf b (take n log) C → IsLogOf b log D → IsInside C D
+front_inside {b} {log} {C} {D} n c d x m =
+    let has = c.all x m in
+    let few : has.0 < n = omega (arith, has.1, length-take n log) in
+    let at : slice_index log has.0 ≡ x = sym (get_or-take n log has.0 0 few) ∙ contained_at (take n log) x has in
+    subst (IsMember D) at (d.each has.0 (omega (arith, has.1, length-take n log)))
 
 -- the levels held are the vector
 pub levels_are : {b : Board} {h : Held} → IsHeld b h → h.levels ≡ vector b h.set
@@ -100,6 +109,10 @@ marks_fill {t} {g} {h} {v} {w} {old} {marks} i n held are before behind stays ne
         let whole : take (slice_index marks j) h.log ≡ h.log = ap (λ m. take m h.log) (behind j le y) ∙ take_all (length h.log) h.log (omega arith) in
         subst (IsMark t.board g t.order w (j + 1)) (one_set held.logged (subst (λ log. IsLogOf t.board log C) whole c)) (new j le y)
 
+-- a set agrees with its own vector everywhere
+agrees_own : {order w : List ℕ} (b : Board) (C : List Bool) → IsOrder (length b.leaves) order → w ≡ vector b C → AgreesUpTo b order w (length b.leaves) C
+agrees_own {order} {w} b C o is j less = sym (ap (λ u. slice_index u (slice_index order j)) is ∙ vector_at b C (slice_index order j) (o.in_range j (omega (arith, o.long))))
+
 -- the next set up at a position, with none behind, is reached
 pub reached_up : {t : Course} {g : Gates} {h : Held} {v old w marks : List ℕ} (i : ℕ) → IsBoard t.board → IsOrder (length t.board.leaves) t.order → IsHeld t.board h → AreGatesOf t.board g → AreLogMarks t g v h.log old i → i < length t.board.leaves → length old ≡ length t.board.leaves
     → IsNextUp t.board g t.order v i h.set → NoneFrom t.board g t.order v (i + 1)
@@ -115,6 +128,8 @@ reached_up {t} {g} {h} {v} {old} {w} {marks} i board order held gates are x long
     are = marks_fill i (length t.board.leaves) held are before (λ j le y. behind j le (omega (arith, long)))
         (λ j C y m. subst (λ u. IsMark t.board g t.order u (j + 1) C) (sym is) (mark_before order within n (j + 1) (omega arith) m))
         (λ j le y. subst (λ u. IsMark t.board g t.order u (j + 1) h.set) (sym is) (mark_behind order within n (j + 1) (omega arith) (omega (arith, order.long))));
+    closed = n.up.fits.closed;
+    agrees = agrees_own t.board h.set order is;
     none = λ j D le y. absurd (omega (arith, order.long));
   };
 }
@@ -139,6 +154,8 @@ reached_first {t} {g} {h} {w} {marks} old board order held gates long least e ea
     are = marks_fill {v = w} {old = marks} 0 (length t.board.leaves) held (record { few = λ j y. absurd (omega arith); rising = λ j k a y. absurd (omega arith); are = λ j C y. absurd (omega arith) }) (λ j y. absurd (omega arith)) (λ j le y. behind j le (omega (arith, long)))
         (λ j C y. absurd (omega arith))
         (λ j le y. subst (λ u. IsMark t.board g t.order u (j + 1) h.set) (sym is) (begins.0.marks (j + 1) (omega (arith, order.long))));
+    closed = least.one.closed;
+    agrees = agrees_own t.board h.set order is;
     none = λ j D le y. absurd (omega (arith, order.long));
   };
 }
@@ -154,11 +171,13 @@ pub marks_below : {t : Course} {g : Gates} {v log then marks : List ℕ} (i : �
 marks_below {t} {g} {v} {log} {then} {marks} i w same long = marks_keep i (slice_index marks i) w (omega arith) (λ j x. w.rising j i (omega arith) (omega arith)) same long
 
 -- a position less, where none is above the vector there
-pub under_way_below : {t : Course} {g : Gates} {h k : Held} {v marks : List ℕ} (i : ℕ) → IsUnderWay t g h v marks (i + 1) → IsHeld t.board k → take (slice_index marks i) k.log ≡ take (slice_index marks i) h.log → slice_index marks i ≤ length k.log → NoneFrom t.board g t.order v i → IsUnderWay t g k v marks i
-under_way_below i w held same long none = record {
+pub under_way_below : {t : Course} {g : Gates} {h k : Held} {v marks : List ℕ} (i : ℕ) → IsUnderWay t g h v marks (i + 1) → IsHeld t.board k → take (slice_index marks i) k.log ≡ take (slice_index marks i) h.log → slice_index marks i ≤ length k.log → NoneFrom t.board g t.order v i → IsMark t.board g t.order v (i + 1) k.set → IsUnderWay t g k v marks i
+under_way_below i w held same long none m = record {
   made = record { order = w.made.order; held = held; gates = w.made.gates; level_each = w.made.level_each; mark_each = w.made.mark_each };
   within = let a = w.within in omega arith;
   are = marks_below i w.are same long;
+  closed = m.fits.closed;
+  agrees = λ j x. m.agrees j (omega arith);
   none = none;
 }
 
@@ -168,8 +187,13 @@ under_way_here {t} {g} {h} {k} {v} {marks} i p wanted w x held same at is r = re
   made = record { order = w.made.order; held = held; gates = w.made.gates; level_each = w.made.level_each; mark_each = w.made.mark_each };
   within = omega arith;
   are = subst (λ log. AreLogMarks t g v log marks i) (sym same) w.are;
+  closed = subst (IsClosedIn t.board) set_is w.mark.fits.closed;
+  agrees = subst (AgreesUpTo t.board t.order v i) set_is w.mark.agrees;
   none = follow_ends t.board g t.order v i h.set w.mark (subst (λ q. IsNotRaised t.board g t.order h.set q (slice_index v q) i) at (subst (λ n. IsNotRaised t.board g t.order h.set p n i) is r));
 }
+  where
+    set_is : h.set ≡ k.set
+    set_is = one_set w.made.held.logged (subst (λ log. IsLogOf t.board log k.set) same held.logged)
 
 -- what is found at a position along a vector
 pub along_on : {t : Course} {g : Gates} {h : Held} {v marks : List ℕ} (k : Held) (i p wanted : ℕ) → IsBoard t.board → IsOrder (length t.board.leaves) t.order → IsMarkedAlong t g h v marks i → i < length t.board.leaves → p ≡ slice_index t.order i → wanted ≡ slice_index v p → IsRaised t.board g t.order h.set p wanted i k.set

@@ -1,4 +1,5 @@
 pub mod Walking
+pub mod Barred
 pub mod Listers
 pub mod Kept
 pub mod Rests

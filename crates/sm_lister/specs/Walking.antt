@@ -2,11 +2,12 @@
 -- of the log of what is held the positions up to it ask for.
 use Rattle.std.specs.Prelude.{◌≡◌, if◌then◌else◌, ℕ, ◌+◌, ◌<◌, ◌≤◌, true, false, List, Bool, Option, None, Some, length, take, slice_index, slice_index_or}
 use Rattle.sm_theory.specs.Vectors.{IsOrder}
-use Rattle.sm_board.specs.Board.{Board, Gates, Fits, IsLeast, IsFirstChange}
+use Rattle.sm_board.specs.Board.{Board, Gates, Fits, IsLeast, IsClosedIn, IsFirstChange}
 use Rattle.sm_board.specs.Growing.{IsLogOf}
 use Rattle.sm_board.specs.Courses.{Course, Held, IsHeld}
 use Rattle.sm_least.specs.Gates.{AreGatesOf}
-use Rattle.sm_board.specs.Walks.{vector, IsMark, NoneFrom, HasFirstVector, IsFirstAbove}
+use Rattle.sm_board.specs.Walks.{vector, AgreesUpTo, IsMark, NoneFrom, HasFirstVector, IsFirstAbove}
+use Rattle.sm_lister.specs.Barred.{HasRoom}
 use Rattle.sm_lister.specs.declared.vector_walk.VectorWalk.{VectorWalk}
 
 -- the front of the log up to the mark of each of the first d positions is the least set that fits and is no lower than v up to
@@ -25,11 +26,13 @@ pub record IsMadeFor (t : Course) (g : Gates) (h : Held) (v marks : List ℕ) : 
   pub level_each : length v ≡ length t.board.leaves
   pub mark_each : length marks ≡ length t.board.leaves
 
--- there are marks for the first d positions, and no set is above the vector from there on
+-- there are marks for the first d positions, what is held agrees with the vector at these, and no set is above the vector from there on
 pub record IsUnderWay (t : Course) (g : Gates) (h : Held) (v marks : List ℕ) (d : ℕ) : Type 0 where
   pub made : IsMadeFor t g h v marks
   pub within : d ≤ length t.board.leaves
   pub are : AreLogMarks t g v h.log marks d
+  pub closed : IsClosedIn t.board h.set
+  pub agrees : AgreesUpTo t.board t.order v d h.set
   pub none : NoneFrom t.board g t.order v d
 
 -- a depth from which on, up to depth d, no rotation changes the level at a position and none before it
@@ -82,6 +85,7 @@ pub record IsKeptWalk (t : Course) (g : Gates) (h : Held) (w : VectorWalk) : Typ
   pub made : IsMadeFor t g h w.vector.items w.marks.items
   pub skip_each : length w.skip.items ≡ length t.board.leaves + 1
   pub skips : AreSkips t.board t.order w.skip.items
+  pub room : HasRoom t w.bars
   pub least : w.fresh ≡ true → IsLeast (Fits t.board g) h.set
   pub under_way : w.fresh ≡ false → IsUnderWay t g h w.vector.items w.marks.items w.depth
   pub nothing : w.fresh ≡ false → w.given ≡ false → NoneLeft t g None

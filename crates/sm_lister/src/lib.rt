@@ -4,6 +4,7 @@
 //! iterator over its vectors with a limit; its law stands in [`laws`].
 #![tactic(auto)]
 
+mod bars;
 pub mod laws;
 mod lister;
 mod listing;

@@ -2,11 +2,12 @@
 
 ghost use Rattle.std.specs.Prelude.{◌≡◌, ℕ, ◌+◌, ◌^◌, ◌<◌, true, false, Bool, List, length, slice_index_or, option_map, IfOk, MatchOption};
 ghost use Rattle.sm_theory.specs.Vectors.{IsOrder};
-ghost use Rattle.sm_board.specs.Board.{Gates as PlainGates, Fits, IsLeast};
+ghost use Rattle.sm_board.specs.Board.{Gates as PlainGates, Fits, IsLeast, IsClosedIn};
 ghost use Rattle.sm_board.specs.Courses.{Held as PlainHeld, IsHeld};
 ghost use Rattle.sm_least.specs.Gates.{AreGatesOf};
 ghost use Rattle.sm_lister.specs.Walking.{cursor_of, AreSkips, IsKeptWalk, AreFirstChanges, SkipsNoFirstChange};
 
+use crate::bars::Bars;
 use crate::vector_walk::VectorWalk;
 use sm_board::Course;
 use std::alloc::{AllocError, Global};
@@ -25,7 +26,8 @@ impl VectorWalk {
             ≡ length course.now.board.leaves) }
         ensures cursor { IfOk result (λ w. cursor_of w ≡ option_map (λ v. v.items) after) }
         ensures walking { IfOk result (λ w. (g : PlainGates) (h : PlainHeld)
-            → IsHeld course.now.board h → AreGatesOf course.now.board g
+            → IsHeld course.now.board h → IsClosedIn course.now.board h.set
+            → AreGatesOf course.now.board g
             → (any ≡ true → IsLeast (Fits course.now.board g) h.set) → (any ≡ false
             → (D : List Bool) → ¬ Fits course.now.board g D)
             → IsKeptWalk course.now g h w) }
@@ -33,6 +35,7 @@ impl VectorWalk {
         let n = course.proposers() as usize;
         let skip = skips(alloc, course)?;
         let marks = vec![in alloc; 0; n]?;
+        let bars = Bars::start(alloc, course)?;
         let given = after.is_some();
         let vector = match after {
             Some(vector) => vector,
@@ -43,6 +46,7 @@ impl VectorWalk {
             given,
             marks,
             skip,
+            bars,
             depth: 0,
             fresh: any,
         })

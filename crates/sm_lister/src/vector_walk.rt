@@ -2,13 +2,15 @@
 
 ghost use Rattle.std.specs.Prelude.{◌≡◌, ℕ, ◌+◌, ◌-◌, ◌<◌, ◌≤◌, true, false, List, Bool, Option, None, Some, length, take, slice_index};
 ghost use Rattle.sm_theory.specs.Vectors.{IsOrder};
-ghost use Rattle.sm_board.specs.Board.{Fits, IsLeast, level};
+ghost use Rattle.sm_board.specs.Board.{Fits, IsLeast, IsInside, level};
 ghost use Rattle.sm_board.specs.Growing.{IsLogOf};
 ghost use Rattle.sm_board.specs.Courses.{IsHeld};
 ghost use Rattle.sm_least.specs.Gates.{AreGatesOf};
 ghost use Rattle.sm_board.specs.Walks.{vector, IsMark, IsNextUp, NoneFrom};
-ghost use Rattle.sm_lister.specs.Walking.{cursor_of, IsMadeFor, IsUnderWay, AreSkips, IsVectorReached, IsMarkedAlong, IsKeptWalk, NoneLeft};
+ghost use Rattle.sm_lister.specs.Walking.{cursor_of, IsMadeFor, IsUnderWay, IsVectorReached, IsMarkedAlong, IsKeptWalk, NoneLeft};
+ghost use Rattle.sm_lister.specs.Barred.{AreBars};
 
+use crate::bars::Bars;
 use sm_board::{Course, Held};
 use sm_least::{Gates, raise};
 
@@ -23,6 +25,8 @@ pub struct VectorWalk {
     pub(crate) marks: Vec<usize>,
     /// For each depth the one behind the last position before it that is the first whose level some rotation changes.
     pub(crate) skip: Vec<u32>,
+    /// What the step has learnt of rotations that can't enter.
+    pub(crate) bars: Bars,
     /// The position before which a set may still go up.
     pub(crate) depth: u32,
     /// Whether no step was made yet.
@@ -83,7 +87,7 @@ fn first_step(course: &Course, gates: &Gates, held: &mut Held, walk: &mut Vector
     depth.is_none()
 }
 
-/// A later step.
+/// A later step: from the depth down, goes to the first set above the vector.
 fn next_step(course: &Course, gates: &Gates, held: &mut Held, walk: &mut VectorWalk) -> bool
     requires walking { IsKeptWalk course.now gates.now held.old walk.old }
     requires over { walk.old.fresh ≡ false }
@@ -96,17 +100,53 @@ fn next_step(course: &Course, gates: &Gates, held: &mut Held, walk: &mut VectorW
     ensures none { result ≡ false → NoneLeft course.now gates.now (cursor_of walk.old) }
     ensures same { result ≡ false → cursor_of walk.new ≡ cursor_of walk.old }
 {
-    let depth = walk.depth as usize;
-    let found = go_on(
+    walk.bars.forget();
+    'depths: while walk.depth > 0 {
+        if try_last(course, gates, held, walk) {
+            return true;
+        }
+    }
+    false
+}
+
+/// Tries the last position before the depth at which some rotation changes a level first. The depth falls where no set can go up
+/// there.
+fn try_last(course: &Course, gates: &Gates, held: &mut Held, walk: &mut VectorWalk) -> bool
+    requires walking { IsKeptWalk course.now gates.now held.old walk.old }
+    requires over { walk.old.fresh ≡ false }
+    requires bars { AreBars course.now held.old.set walk.old.bars }
+    requires some { 0 < walk.old.depth }
+    ensures walking { IsKeptWalk course.now gates.now held.new walk.new }
+    ensures over { walk.new.fresh ≡ false }
+    ensures bars { result ≡ false → AreBars course.now held.new.set walk.new.bars }
+    ensures reached { result ≡ true → IsVectorReached course.now gates.now
+        (Some walk.old.vector.items) held.new walk.new.vector.items walk.new.marks.items }
+    ensures given { walk.new.given ≡ walk.old.given }
+    ensures lower { result ≡ false → walk.new.depth < walk.old.depth }
+    ensures same { result ≡ false → walk.new.vector.items ≡ walk.old.vector.items }
+{
+    let _board = course.board();
+    let below = walk.skip[walk.depth as usize];
+    if below == 0 {
+        walk.depth = 0;
+        return false;
+    }
+    walk.depth = below - 1;
+    if walk.bars.is_barred(course, held, walk.depth) {
+        return false;
+    }
+    if !step(
         course,
         gates,
         held,
         &mut walk.vector,
         &mut walk.marks,
-        &walk.skip[..depth + 1],
-    );
-    walk.depth = if found { course.proposers() } else { 0 };
-    found
+        walk.depth,
+    ) {
+        return false;
+    }
+    walk.depth = course.proposers();
+    true
 }
 
 /// The least set is the first one of all.
@@ -120,6 +160,7 @@ fn begin(course: &Course, gates: &Gates, held: &Held, walk: &mut VectorWalk)
     ensures depth { walk.new.depth ≡ length course.now.board.leaves }
     ensures fresh { walk.new.fresh ≡ walk.old.fresh }
     ensures skip { walk.new.skip ≡ walk.old.skip }
+    ensures bars { walk.new.bars ≡ walk.old.bars }
 {
     keep(held, &mut walk.vector, &mut walk.marks, 0);
     walk.given = true;
@@ -178,6 +219,9 @@ fn go_up(
         held.new.set }
     ensures nothing { result ≡ false → NoneFrom course.now.board gates.now course.now.order
         vector.now i }
+    ensures stands { result ≡ false → IsMark course.now.board gates.now course.now.order vector.now
+        (i + 1) held.new.set }
+    ensures fewer { result ≡ false → IsInside held.new.set held.old.set }
 {
     let _board = course.board();
     let p = course.proposer_at(i);
@@ -199,6 +243,7 @@ fn step(
         vector.new marks.new }
     ensures under_way { result ≡ false → IsUnderWay course.now gates.now held.new vector.new
         marks.new i }
+    ensures fewer { result ≡ false → IsInside held.new.set held.old.set }
     ensures same { result ≡ false → vector.new ≡ vector.old }
 {
     let _board = course.board();
@@ -207,38 +252,6 @@ fn step(
     }
     keep(held, vector, marks, i);
     true
-}
-
-/// From a depth down: goes to the first set above the vector. False where there is none. The skips are those of the depths up
-/// to this one.
-fn go_on(
-    course: &Course,
-    gates: &Gates,
-    held: &mut Held,
-    vector: &mut [u32],
-    marks: &mut [usize],
-    skip: &[u32],
-) -> bool
-    requires skips { AreSkips course.now.board course.now.order skip.now }
-    requires some { 0 < length skip.now }
-    requires under_way { IsUnderWay course.now gates.now held.old vector.old marks.old
-        (length skip.now - 1) }
-    ensures reached { result ≡ true → IsVectorReached course.now gates.now (Some vector.old) held.new
-        vector.new marks.new }
-    ensures under_way { result ≡ false → IsUnderWay course.now gates.now held.new vector.new
-        marks.new 0 }
-    ensures same { result ≡ false → vector.new ≡ vector.old }
-{
-    let _board = course.board();
-    let mut below = skip[skip.len() - 1];
-    while below > 0 {
-        below -= 1;
-        if step(course, gates, held, vector, marks, below) {
-            return true;
-        }
-        below = skip[below as usize];
-    }
-    false
 }
 
 /// Goes along a vector as far as sets agree with it. `None` where it meets the first one above it, else the depth from which on

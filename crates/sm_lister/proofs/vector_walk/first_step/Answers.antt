@@ -14,6 +14,7 @@ returns-clause-walking c =
       made = made_same new.made (take-append_at_length c.args.walk.now.vector.len c.follow-depth.new.vector _ long) (take-append_at_length c.args.walk.now.marks.len c.follow-depth.new.marks _ each);
       skip_each = c.requires.walking.skip_each;
       skips = c.requires.walking.skips;
+      room = c.requires.walking.room;
       least = λ yes. absurd (false≢true yes);
       under_way = λ _. under_way_same new (take-append_at_length c.args.walk.now.vector.len c.follow-depth.new.vector _ long) (take-append_at_length c.args.walk.now.marks.len c.follow-depth.new.marks _ each);
       nothing = λ _ no. absurd (false≢true (sym no ∙ c.if-not-walk.false));

@@ -6,7 +6,7 @@ pub go_up-requires-clause-mark : goal.go_up-requires-clause-mark
 go_up-requires-clause-mark c = λ C log. c.requires.under_way.are.are c.args.i C (omega arith) log
 
 pub returns-then-not-go_up-clause-under_way : goal.returns-then-not-go_up-clause-under_way
-returns-then-not-go_up-clause-under_way c = λ _. under_way_below c.args.i c.requires.under_way c.go_up.ensures.held c.go_up.ensures.front c.go_up.ensures.longer (c.go_up.ensures.nothing c.if-not-go_up.true)
+returns-then-not-go_up-clause-under_way c = λ _. under_way_below c.args.i c.requires.under_way c.go_up.ensures.held c.go_up.ensures.front c.go_up.ensures.longer (c.go_up.ensures.nothing c.if-not-go_up.true) (c.go_up.ensures.stands c.if-not-go_up.true)
 
 pub returns-clause-reached : goal.returns-clause-reached
 returns-clause-reached c = λ _.

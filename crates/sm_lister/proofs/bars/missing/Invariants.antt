@@ -1,0 +1,4 @@
+use Rattle.sm_lister.proofs.bars.missing.Given as goal
+
+abbrev pub invariant-loop-y : goal.invariant-loop-y
+invariant-loop-y l = record {}
