@@ -20,8 +20,6 @@ use Rattle.sm_answer_roommates.specs.RestAnswer.{AreLeftOut, IsRestOf, out_line,
 use Rattle.sm_answer_roommates.specs.Resting.{AreLeftOutBelow}
 use Rattle.sm_answer_roommates.proofs.LineLemmas.{couple_sound, end_sound, many}
 
-}
-
 -- one more person that isn't left out
 pub noted_same : {rows : List (List ℕ)} {next : List ℕ} {x : ℕ} {out : List ℕ} → AreLeftOutBelow rows next x out → (IsLowestOfOdd rows next x → ⊥) → AreLeftOutBelow rows next (x + 1) out
 noted_same {rows} {next} {x} {out} w isnt = record {
@@ -43,8 +41,6 @@ noted_more {rows} {next} {x} {out} w is = record {
     | inl e ↦ subst (Contains (out ++ x ∷ [])) (sym e) (Contains-push out x)
     | inr ne ↦ Contains-append_left out (x ∷ []) y (w.all y (omega (arith, lt, ne)) l)
   ];
-}
-
 }
 
 -- Lines of the instance.

@@ -92,11 +92,6 @@ greatest_of_pieces numbers greatest h = omega (arith, at_least, at_most)
       ]
     ]
 
-}
-  where
-    as_was : (p : ℕ) → begin ≤ p → p < begin + piece → slice_index after p ≡ slice_index before p
-    as_was p l m = kept p (elim apart [ inl e ↦ inl (omega (arith, e, m)) | inr e ↦ inr (omega (arith, e, l)) ])
-
 -- numbers that are the same below a place stay so with the next one
 pub same_set : (kept ranks : List ℕ) (from p : ℕ) → p < length kept → ((q : ℕ) → from ≤ q → q < p → slice_index kept q ≡ slice_index ranks q) → (q : ℕ) → from ≤ q → q < p + 1 → slice_index (set kept p (slice_index ranks p)) q ≡ slice_index ranks q
 same_set kept ranks from p there same q l m = ⊎_elim
