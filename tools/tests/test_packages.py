@@ -15,7 +15,7 @@ TOP = os.path.realpath(os.path.join(os.path.dirname(os.path.realpath(__file__)),
 PACKAGES = os.path.join(TOP, 'tools', 'packages')
 TEXT = os.path.join(TOP, 'examples', 'hospitals.txt')
 # What the script, the tools and a virtual environment call. The kit isn't there.
-PLAIN = ('awk', 'bash', 'cat', 'cut', 'dirname', 'env', 'find', 'getconf', 'grep', 'head', 'ls', 'paste', 'python3', 'readlink', 'sed', 'sh',
+PLAIN = ('awk', 'bash', 'cat', 'cmp', 'cut', 'dirname', 'env', 'find', 'getconf', 'grep', 'head', 'ls', 'paste', 'python3', 'readlink', 'sed', 'sh',
          'sha256sum', 'sort', 'tail', 'uname', 'xargs')
 
 
