@@ -7,7 +7,7 @@ from .command import Fault
 
 TOP = os.path.dirname(os.path.dirname(os.path.dirname(os.path.realpath(__file__))))
 STATUSES = {4: 'there was no memory', 5: 'reading failed', 6: 'writing failed', 8: 'the system refuses the words',
-            70: 'the program wasn\'t built'}
+            70: 'there is no program to call'}
 
 
 def path():

@@ -1,18 +1,36 @@
-"""The packages are the same twice, and what completes words knows all commands and reasons."""
+"""The packages: they are the same twice, each works where nothing else is, and what completes words knows all commands and reasons.
+
+What a missing tool makes or tries, and what needs a release of these sources, is skipped.
+"""
 import os
 import re
 import shutil
 import subprocess
+import sys
 import tempfile
 import unittest
 import zipfile
 
 TOP = os.path.realpath(os.path.join(os.path.dirname(os.path.realpath(__file__)), '..', '..'))
 PACKAGES = os.path.join(TOP, 'tools', 'packages')
+TEXT = os.path.join(TOP, 'examples', 'hospitals.txt')
+# What the script, the tools and a virtual environment call. The kit isn't there.
+PLAIN = ('awk', 'bash', 'cat', 'cmp', 'cut', 'dirname', 'env', 'find', 'getconf', 'grep', 'head', 'ls', 'paste', 'python3', 'readlink', 'sed', 'sh',
+         'sha256sum', 'sort', 'tail', 'uname', 'xargs')
+
+
+def read(*path):
+    with open(os.path.join(*path), 'rb') as file:
+        return file.read()
+
+
+def release():
+    """What `tools/release --check` says."""
+    return subprocess.run([os.path.join(TOP, 'tools', 'release'), '--check'], stdout=subprocess.PIPE).stdout.decode()
 
 
 def completion(shell):
-    return subprocess.run([PACKAGES, '--completion', shell], capture_output=True, text=True, check=True).stdout
+    return subprocess.run([PACKAGES, '--completion', shell], stdout=subprocess.PIPE, check=True).stdout.decode()
 
 
 def completed(line):
@@ -20,10 +38,10 @@ def completed(line):
     words = line.split(' ')
     calls = f'{completion("bash")}\ncompopt() {{ :; }}\nCOMP_LINE={line!r} COMP_POINT={len(line)}\n_matchbench matchbench {words[-1]!r}\n' \
         'printf "%s\\n" "${COMPREPLY[@]}"\n'
-    return subprocess.run(['bash', '-c', calls], capture_output=True, text=True, check=True).stdout.split()
+    return subprocess.run(['bash', '-c', calls], stdout=subprocess.PIPE, check=True).stdout.decode().split()
 
 
-class Packages(unittest.TestCase):
+class Completions(unittest.TestCase):
     def test_words(self):
         with open(os.path.join(TOP, 'docs', 'FORMATS.md'), encoding='utf-8') as file:
             commands = re.findall(r'^\| `([a-z]+)[^`]*` \|', file.read().split('\n## The command line\n')[1].split('\n## ')[0], re.M)
@@ -32,7 +50,8 @@ class Packages(unittest.TestCase):
             for word in [*commands, '--version', 'NotStable', 'NoOddParty', 'side=reviewers', 'shape=rooms', 'form=json']:
                 self.assertIn(word, text, shell)
             if shutil.which(shell):
-                self.assertEqual(subprocess.run([shell, '-n'], input=text, capture_output=True, text=True).stderr, '', shell)
+                done = subprocess.run([shell, '-n'], input=text.encode(), stderr=subprocess.PIPE)
+                self.assertEqual(done.stderr, b'', shell)
 
     def test_bash(self):
         self.assertEqual(completed('matchbench so'), ['solve'])
@@ -43,21 +62,115 @@ class Packages(unittest.TestCase):
         self.assertEqual(completed('matchbench --unproved med'), ['median'])
         self.assertEqual(completed('matchbench --explain CutD'), ['CutDiffers'])
 
+
+@unittest.skipUnless(release().startswith('current'), 'release/ is not of these sources')
+class Packages(unittest.TestCase):
+    @classmethod
+    def setUpClass(cls):
+        cls.room = tempfile.mkdtemp()
+        cls.made = os.path.join(cls.room, 'made')
+        cls.sums = cls.make(cls.made, 0o022)
+        cls.names = os.listdir(cls.made)
+        os.mkdir(os.path.join(cls.room, 'plain'))
+        for it in PLAIN:
+            found = sys.executable if it == 'python3' else shutil.which(it)
+            if found:
+                os.symlink(found, os.path.join(cls.room, 'plain', it))
+        # Where the packages are used: no kit, nothing of the repository.
+        cls.plain = {'PATH': os.path.join(cls.room, 'plain'), 'HOME': cls.room, 'LANG': 'C.UTF-8'}
+
+    @classmethod
+    def tearDownClass(cls):
+        shutil.rmtree(cls.room)
+
+    @staticmethod
+    def make(folder, mask):
+        """Makes the packages, and returns their checksums."""
+        subprocess.run([PACKAGES, folder], stdout=subprocess.DEVNULL, check=True, preexec_fn=lambda: os.umask(mask))
+        return read(folder, 'SHA256SUMS').decode()
+
+    def package(self, ending):
+        return os.path.join(self.made, next(it for it in self.names if it.endswith(ending)))
+
+    def call(self, *words, text=b'', **env):
+        done = subprocess.run(words, input=text, stdout=subprocess.PIPE, stderr=subprocess.PIPE, cwd=self.room, env={**self.plain, **env})
+        self.assertEqual((done.returncode, done.stderr), (0, b''), words)
+        return done.stdout
+
+    def has_program(self, prefix):
+        """The script below a prefix answers, and says the version and the program."""
+        script = os.path.join(prefix, 'bin', 'matchbench')
+        self.assertEqual(self.call(script, 'solve', text=read(TEXT)), read(TOP, 'examples', 'hospitals.solve'))
+        program = os.path.join(prefix, 'libexec', 'matchbench', 'matchbench')
+        self.assertEqual(read(program), read(TOP, 'release', 'matchbench'))
+        version = re.search(rb'^version: "(.*)"$', read(TOP, 'CITATION.cff'), re.M).group(1)
+        said = self.call(script, '--version')
+        self.assertTrue(said.startswith(b'matchbench %s\nprogram %s (released)\n' % (version, program.encode())), said)
+        self.assertIn(b'solve [side=', self.call(script, '--help'))
+        self.assertIn(b'breach or blocks', self.call(script, '--explain', 'NotStable'))
+
+    def has_module(self, prefix, python=sys.executable, **env):
+        """The module finds the program below a prefix."""
+        asked = 'import matchbench; print(matchbench.find_program()); print(matchbench.Instance.make("random", 8, 1).solve().ranks)'
+        found, ranks = self.call(python, '-c', asked, **env).decode().splitlines()
+        self.assertEqual(found, os.path.join(prefix, 'libexec', 'matchbench', 'matchbench'))
+        self.assertTrue(re.fullmatch(r'\(\d(, \d){7}\)', ranks), ranks)
+
+    def has_tools(self, prefix):
+        """All tools of the folder are there but for those of developers, each with a page, and they find the program below the prefix."""
+        names = {it for it in os.listdir(os.path.join(TOP, 'tools')) if os.access(os.path.join(TOP, 'tools', it), os.X_OK)
+                 and os.path.isfile(os.path.join(TOP, 'tools', it))} - {'packages', 'release'}
+        found = [it for it in os.listdir(os.path.join(prefix, 'bin')) if it.startswith('matchbench-')]
+        self.assertEqual(sorted(found), sorted('matchbench-' + it.replace('_', '-') for it in names))
+        for it in found:
+            self.assertTrue(self.call(os.path.join(prefix, 'bin', it), '--help'), it)
+            self.assertTrue(os.path.isfile(os.path.join(prefix, 'share', 'man', 'man1', it + '.1.gz')), it)
+        vectors = self.call(os.path.join(prefix, 'bin', 'matchbench-list-all'), TEXT)
+        listed = read(TOP, 'examples', 'hospitals.list').splitlines(True)
+        self.assertEqual(vectors, b''.join(it for it in listed if it.startswith(b'vector ')))
+
     def test_same_twice(self):
-        said = subprocess.run([os.path.join(TOP, 'tools', 'release'), '--check'], capture_output=True, text=True).stdout
-        if not said.startswith('current'):
-            self.skipTest(said)
-        with tempfile.TemporaryDirectory() as one, tempfile.TemporaryDirectory() as other:
-            sums = []
-            for folder, mask in ((one, 0o022), (other, 0o077)):
-                subprocess.run([PACKAGES, folder], stdout=subprocess.DEVNULL, check=True, preexec_fn=lambda it=mask: os.umask(it))
-                with open(os.path.join(folder, 'SHA256SUMS'), encoding='ascii') as file:
-                    sums.append(file.read())
-            self.assertEqual(*sums)
-            wheel = next(it for it in os.listdir(one) if it.endswith('.whl'))
-            with zipfile.ZipFile(os.path.join(one, wheel)) as file, open(os.path.join(TOP, 'release', 'matchbench'), 'rb') as program:
-                name = next(it for it in file.namelist() if it.endswith('libexec/matchbench/matchbench'))
-                self.assertEqual(file.read(name), program.read())
+        self.assertEqual(self.make(os.path.join(self.room, 'again'), 0o077), self.sums)
+
+    def test_archive(self):
+        shutil.unpack_archive(self.package('.tar.xz'), os.path.join(self.room, 'archive'))
+        prefix, = (os.path.join(self.room, 'archive', it) for it in os.listdir(os.path.join(self.room, 'archive')))
+        self.has_program(prefix)
+        self.has_tools(prefix)
+        self.has_module(prefix, PYTHONPATH=os.path.join(prefix, 'share', 'matchbench', 'python'))
+
+    @unittest.skipUnless(shutil.which('dpkg-deb'), 'dpkg-deb is missing')
+    def test_debian(self):
+        root = os.path.join(self.room, 'root')
+        subprocess.run(['dpkg-deb', '-x', self.package('.deb'), root], check=True)
+        prefix = os.path.join(root, 'usr')
+        self.has_program(prefix)
+        if os.path.exists('/usr/bin/python3'):
+            self.has_tools(prefix)
+        self.has_module(prefix, PYTHONPATH=os.path.join(prefix, 'lib', 'python3', 'dist-packages'))
+
+    @unittest.skipUnless(shutil.which('dpkg-deb') and shutil.which('lintian'), 'dpkg-deb or lintian is missing')
+    def test_lintian(self):
+        said = subprocess.run(['lintian', '--allow-root', '--show-overrides', self.package('.deb')], stdout=subprocess.PIPE).stdout.decode()
+        self.assertEqual([it for it in said.splitlines() if it[0] in 'EO'],
+                         ['O: matchbench: unstripped-binary-or-object [usr/libexec/matchbench/matchbench]'], said)
+
+    def test_wheel(self):
+        with zipfile.ZipFile(self.package('.whl')) as file:
+            name = next(it for it in file.namelist() if it.endswith('libexec/matchbench/matchbench'))
+            self.assertEqual(file.read(name), read(TOP, 'release', 'matchbench'))
+        prefix = os.path.join(self.room, 'venv')
+        if subprocess.run([sys.executable, '-m', 'venv', prefix], stdout=subprocess.DEVNULL, stderr=subprocess.DEVNULL).returncode:
+            self.skipTest('python3 makes no virtual environment with pip here')
+        python = os.path.join(prefix, 'bin', 'python')
+        pip = [python, '-m', 'pip', '--disable-pip-version-check', '--no-cache-dir']
+        # The wheel, and then the same from the repository.
+        for given in (self.package('.whl'), os.path.join(TOP, 'python')):
+            self.call(*pip, 'install', '--no-index', given)
+            self.has_program(prefix)
+            self.has_module(prefix, python)
+            self.call(*pip, 'uninstall', '-y', 'matchbench')
+            self.assertFalse(os.path.exists(os.path.join(prefix, 'libexec', 'matchbench', 'matchbench')))
 
 
 if __name__ == '__main__':
