@@ -8,7 +8,10 @@ import unittest
 import brute
 import inside
 import program
-from shared.reasons import COMMANDS, REFUSALS, VERDICTS
+from shared.module import module
+from shared.reasons import COMMANDS, HINTS
+
+REASONS, VERDICTS = module().REASONS, module().VERDICTS
 
 TOP = os.path.join(inside.TOOLS, '..')
 
@@ -141,7 +144,7 @@ class Explain(Case):
                 (two + 'p m n: a\n', 'BadLine 2', 'no blank within'), (two + 'weight m a\n', 'BadLine 2', 'and a number'),
                 (two + 'q m: a\n', 'BadLine 2', 'begins with p, r'), (two + 'pair m a\n', 'BadLine 2', 'behind the line `end`'),
                 (two + two, 'BadLine 2', 'stands once'), (two + 'p -m: a\n', 'BadName 2', 'at most 64'),
-                ('stable 1 hospitals\nr a [x]: m\n', 'BadNumber 2', 'from 0 to 4,096'), (two + 'p m:\np m:\n', 'Redeclared 3', 'one line'),
+                ('stable 1 hospitals\nr a [x]: m\n', 'BadNumber 2', 'without a leading 0'), (two + 'p m:\np m:\n', 'Redeclared 3', 'one line'),
                 (two + 'p m: a a\n', 'RepeatedEntry 2', 'strike'), (two, 'MissingEnd 2', 'behind the last'),
                 (two + 'p m: hostal\nr hospital:\nend\n', 'UnknownName 2', 'is hospital meant?'),
                 (two + 'p m: 1\nr a:\nend\n', 'UnknownName 2', 'no ranks'), (two + 'p m: n\np n:\nr a:\nend\n', 'UnknownName 2', 'n is of the same side'),
@@ -153,7 +156,7 @@ class Explain(Case):
             self.assertTrue(lines[0].startswith('raw' if refusal.endswith(' 0') else f'raw:{refusal.split()[1]}: '), lines)
             self.assertIn(what, lines[-1], (text, lines))
         self.assertEqual(self.told(two + 'p m: hostal\nr hospital:\nend\n', 'refused UnknownName 2')[:2],
-                         ['raw:2: p m: hostal', 'nobody has this name: hostal (UnknownName)'])
+                         ['raw:2: p m: hostal', f'hostal: {REASONS["UnknownName"]} (UnknownName)'])
 
     def test_answers(self):
         """What may be wrong behind the instance."""
@@ -171,7 +174,7 @@ class Explain(Case):
         """Each reason of docs/FORMATS.md has its sentence."""
         formats = text_of(TOP, 'docs', 'FORMATS.md')
         refusals = re.findall(r'^\| `(\w+)` \|', formats.split('\n## Refusals\n')[1], re.M)
-        self.assertEqual(sorted(REFUSALS), sorted(refusals))
+        self.assertEqual((list(REASONS), list(HINTS)), (refusals, refusals))
         verdicts = re.findall(r'^\| `(\w+)` \|', formats.split('| Reason | At |')[1].split('\n\n')[0], re.M)
         self.assertEqual(list(VERDICTS), verdicts)
         commands = re.findall(r'^\| `([a-z]+)[^`]*` \|', formats.split('\n## The command line\n')[1].split('\n## ')[0], re.M)

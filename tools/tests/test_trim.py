@@ -118,8 +118,8 @@ class Trim(unittest.TestCase):
 
     def test_refused(self):
         for text, fault in (('stable 1 roommates\np a: b\np b: a\nend\n', 'trim: standard input: roommates have no seats, and nothing'),
-                            ('stable 1 marriage\np a: b\nend\n', 'trim: standard input:2: nobody has this name: b (UnknownName)'),
-                            ('', 'trim: standard input:1: this is no header')):
+                            ('stable 1 marriage\np a: b\nend\n', 'trim: standard input:2: b: a list, '),
+                            ('', 'trim: standard input:1: the first line with a token is no header')):
             status, cut, told = trim(text)
             self.assertEqual((status, cut), (1, ''))
             self.assertTrue(told.startswith(fault), told)
