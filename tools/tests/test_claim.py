@@ -92,6 +92,26 @@ class Claim(Case):
         self.assertIn('on line 3 b is with nobody', self.refused(ROOMS, 'person,partner\na,b\nb,\n'))
         self.assertIn('roommates have no sides', self.refused(ROOMS, 'person,partner\na,b\n', '--as', 'meet', status=2))
 
+    def test_published(self):
+        """The table of report: the partner in another column, `no place` or own words for it, and persons who were placed beforehand."""
+        names = NAMES + 'placed,city,Kim\n'
+        table = '\ufeffproposer;choice;reviewer\r\nKim;;City Hospital\r\n"Ann, A.";1;City Hospital\r\nBen;1;City Hospital\r\nCem;1;North\r\nDan;;no place\r\n' \
+            'Éve;1;West\r\n'
+        self.put('i.txt', self.hospitals)
+        self.put('names.csv', names)
+        def claimed(table, *words):
+            return self.call('claim', 'i.txt', '--names', 'names.csv', '--partner', 'Reviewer', *words, stdin=table)
+        wanted = self.hospitals + 'answer solve side=proposers\npair ann city\npair ben city\npair cem north\npair eve west\nend\n'
+        self.assertEqual(claimed(table), (0, wanted, ''))
+        self.assertEqual(claimed(table.replace('no place', 'ohne'), '--no-place', 'ohne'), (0, wanted, ''))
+        for old, new, fault in (('no place', 'ohne', '6: \'ohne\' is no reviewer of the instance'), ('Kim;;City Hospital', 'Kim;;North', '2: \'Kim\' was placed '
+                                'beforehand, at \'City Hospital\', and is at \'North\' here'), ('Kim;;City Hospital', 'Kim;;', 'and has no place here'),
+                                ('North', 'north', '\'north\' is no reviewer of the instance; is \'North\' meant?'),
+                                ('reviewer', 'school', '1: there is no column \'Reviewer\' behind the first; the columns are \'proposer\', \'choice\'')):
+            status, text, told = claimed(table.replace(old, new))
+            self.assertEqual((status, text), (1, ''))
+            self.assertIn(fault, told)
+
     def test_refused(self):
         for table, what in (('ann,city\nben,city\n', 'standard input:1: this row has a pair already: a first row'),
                             ('ann,\nben,city\n', 'standard input:1: this row has a pair already'),
@@ -222,6 +242,58 @@ class Explain(Case):
         self.put('a.txt', '')
         self.assertEqual(self.call('explain', 'raw', 'a.txt')[0], 1)
         self.assertEqual(self.call('explain', '-', '-')[0], 2)
+
+    def test_second(self):
+        """Lines of format 2, under a header of either format."""
+        two = 'stable 1 marriage\n'
+        for text, number, what in ((two + 'order m\n', 2, 'write `stable 2 marriage`'), (two + 'master x: a\n', 2, 'write `stable 2 marriage`'),
+                                   (two + 'p m: [x]\n', 2, 'write `stable 2 marriage`'), (two + 'weight m a 1 2\n', 2, 'write `stable 2 marriage`'),
+                                   ('stable 1 hospitals\nr a [2]: [x]\n', 2, 'write `stable 2 hospitals`'),
+                                   ('stable 1 roommates\nmaster x: a\n', 2, 'write `stable 2 roommates`'),
+                                   ('stable 2 marriage\nq m: a\n', 2, 'p, r, master, order, weight, force or forbid'),
+                                   ('stable 2 marriage\nweight m a\n', 2, 'one number or two'), ('stable 2 roommates\norder m\n', 2, 'have no order'),
+                                   ('stable 2 hospitals\nr a 2: m\n', 2, 'in brackets'), ('stable 2 marriage\nr a [2]: m\n', 2, '`stable 2 hospitals` alone'),
+                                   ('stable 2 marriage\nmaster x a\n', 2, 'a master list is `master`, its name')):
+            self.assertIn(what, self.told(text, f'refused BadLine {number}')[-1], text)
+
+    def test_near(self):
+        """Names in other case of letters are found, and none for a number."""
+        two = 'stable 1 marriage\n'
+        self.assertEqual(self.told(two + 'p m: CITY\nr city:\nend\n', 'refused UnknownName 2')[-1], 'is city meant?')
+        self.assertNotIn('meant', self.told(two + 'p m: s101\nr s102:\nend\n', 'refused UnknownName 2')[-1])
+        self.assertNotIn('meant', self.told(two + 'p m: 1011\nr 1012:\nend\n', 'refused UnknownName 2')[-1])
+        self.assertEqual(self.told(two + 'p m: hostal1\nr hospital1:\nend\n', 'refused UnknownName 2')[-1], 'is hospital1 meant?')
+
+    def test_full(self):
+        """With the uncut instance it never says of a pair that was cut that the two don't list each other."""
+        whole = 'stable 1 hospitals\np a: x y\np b: x y\np c: x y\np d: y x\nr x [2]: a b c d\nr y [2]: d c b a\nend\n'
+        # All have their first choice but c, who comes third at x; so the list of x ends behind b.
+        cut = whole.replace('x [2]: a b c d', 'x [2]: a b').replace('p d: y x', 'p d: y')
+        self.put('full.txt', whole)
+        text = cut + 'answer solve side=proposers\npair a x\npair c x\npair d y\nend\n'
+        self.assertEqual(self.told(text, 'answer check\nno 11 NotAMatching\nend')[-1], 'x doesn\'t list c')
+        self.assertEqual(self.told(text, 'answer check\nno 11 NotAMatching\nend', '--full', 'full.txt')[-1],
+                         'c is number 3 of x, where number 1 was the last one admitted')
+        text = cut + 'answer solve side=proposers\npair d x\nend\n'
+        self.assertEqual(self.told(text, 'answer check\nno 10 NotAMatching\nend', '--full', 'full.txt')[-1],
+                         'd is number 4 of x; x is choice 2 of d, who has a better one in each stable matching')
+        self.assertEqual(self.told(cut + 'left a x\nleft b x\nleft c x\nright a x\nend\n', 'refused NotStable 11 left breach c x', '--full', 'full.txt')[-1],
+                         'the left lines aren\'t a matching: c is number 3 of x, where number 2 was the last one admitted')
+        self.put('full.txt', 'stable 1 hospitals\np a: x\nr x [2]: a\nend\n')
+        status, _, told = self.call('explain', 'raw', 'a.txt', '--full', 'full.txt')
+        self.assertEqual((status, told), (1, 'explain: full.txt isn\'t the instance before the cut: it hasn\'t b\n'))
+
+    def test_figures(self):
+        """WrongTotal, WrongCut and WrongValue say the right figure; those of the stored answers."""
+        for name in ('weighed.weight_given', 'weighed.weight_ranks', 'forbidden.weight_ranks', 'two_levels.weight_given', 'second_weights.weight_given'):
+            instance, answer = text_of(TOP, 'examples', name.split('.')[0] + '.txt'), text_of(TOP, 'examples', name)
+            for reason, keywords in (('WrongTotal', ('total', 'total2')), ('WrongCut', ('cut', 'cut2')), ('WrongValue', ('value', 'value2'))):
+                for number, line in enumerate(answer.split('\n')):
+                    if line.split(' ')[0] in keywords:
+                        wrong = answer.split('\n')
+                        wrong[number] = f'{line.split(" ")[0]} 12345'
+                        got = self.told(instance + '\n'.join(wrong), f'answer check\nno {instance.count(chr(10)) + number + 1} {reason}\nend')
+                        self.assertEqual(got[-2:], [VERDICTS[reason], f'it is {line.split(" ")[1]}'], (name, line))
 
     def test_blocking(self):
         """The pair is the first by the definition, with the ranks of both; also for roommates."""
