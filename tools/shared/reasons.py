@@ -5,7 +5,8 @@ HINTS = {
     'TooLong': 'shorter names and fewer comments make it shorter',
     'BadJson': 'without form=json the input is read as a text',
     'BadByte': 'names have letters A to Z and a to z, digits and _ . - alone; tools/from_csv makes such names of any others',
-    'BadHeader': 'write `stable 1 marriage`, `stable 1 hospitals` or `stable 1 roommates`; with 2 in the place of 1 the text is of format 2',
+    'BadHeader': 'write `stable 1 marriage`, `stable 1 hospitals` or `stable 1 roommates`; with 2 in the place of 1 the text is of '
+                 'format 2',
     'BadLine': 'a line begins with p, r, weight, force or forbid, or is `end`; of roommates with p, or is `end`',
     'BadName': 'a name has at most 64 letters, digits and _ . - and begins with a letter, a digit or _',
     'BadNumber': 'numbers are whole and without a leading 0',
@@ -17,18 +18,19 @@ HINTS = {
     'MissingEnd': 'put it behind the last line',
     'UnknownName': 'each agent on a list has a line of its own on the other side, p or r',
     'AfterEnd': 'only `meet`, `join`, `route` and `check` read what stands there',
-    'WrongKind': '`check`, `list`, `rest`, `export` and `solve` without a side take roommates; all but `rest` take marriages and hospitals',
+    'WrongKind': '`check`, `list`, `rest`, `export` and `solve` without a side take roommates; all but `rest` take marriages and '
+                 'hospitals',
     'TooManySeats': 'tools/trim cuts lists where nothing depends on them',
     'BadCursor': 'take a vector of this instance\'s own listing',
     'TooMany': '`force` and `forbid` lines allow fewer; `list` writes any number of them',
-    'BadAnswer': 'an answer is its first line (`answer`, the command and its operand), its lines, each with one blank between two fields '
-                 'and none at either end, and `end`; there is no comment and no empty line',
+    'BadAnswer': 'an answer is its first line (`answer`, the command and its operand), its lines, each with one blank between two '
+                 'fields and none at either end, and `end`; there is no comment and no empty line',
     'NotStable': 'of `meet`, `join` and `route` both matchings have to be stable',
 }
 # Where the text is of format 2.
 HINTS_2 = {
-    'BadLine': 'a line begins with p, r, master, order, weight, force or forbid, or is `end`; of roommates with p or master, or is `end`. A list is '
-               'names, or the name of one master list in brackets; a weight has one number or two',
+    'BadLine': 'a line begins with p, r, master, order, weight, force or forbid, or is `end`; of roommates with p or master, or is '
+               '`end`. A list is names, or the name of one master list in brackets; a weight has one number or two',
 }
 
 COMMANDS = {
@@ -37,7 +39,8 @@ COMMANDS = {
     'rest': (), 'check': (), 'export': (), 'make': ('shape', 'size', 'seed', 'show'),
 }
 VALUES = {
-    'side': 'side=proposers or side=reviewers', 'by': 'by=ranks or by=given', 'limit': 'limit= and a number from 1 to 1,000,000, without commas',
+    'side': 'side=proposers or side=reviewers', 'by': 'by=ranks or by=given',
+    'limit': 'limit= and a number from 1 to 1,000,000, without commas',
     'after': 'after= and numbers with a comma between each two, without blanks',
     'shape': 'shape=copies, shape=cycle, shape=random, shape=hospitals or shape=rooms',
     'size': 'size= and a number from 1 to 512, or to 2,048 for copies',

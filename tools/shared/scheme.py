@@ -4,6 +4,9 @@ from .command import Fault, called, read
 from .instance import Instance
 from .names import Names, near
 from .table import key_of
+from .words import all_of
+
+MATCHINGS = ('solve', 'regret', 'weight', 'meet', 'join', 'median')
 
 
 class Scheme:
@@ -18,8 +21,8 @@ class Scheme:
             raise Fault(f'{instance.file}: roommates have no places')
         if any(line.keyword == 'none' for line in answer.lines):
             raise answer.fault(2, 'the answer is `none`: there is no such matching')
-        if answer.job[0] not in ('solve', 'regret', 'weight', 'meet', 'join', 'median'):
-            raise answer.fault(1, f'an answer of `{answer.job[0]}` isn\'t one matching; those of solve, regret, weight, meet, join and median are')
+        if answer.job[0] not in MATCHINGS:
+            raise answer.fault(1, f'an answer of `{answer.job[0]}` isn\'t one matching; those of {all_of(MATCHINGS)} are')
         for line in answer.lines:
             if line.keyword == 'pair':
                 self.take(line, *line.fields)
@@ -35,7 +38,8 @@ class Scheme:
     def take(self, line, p, r):
         """Takes a pair."""
         if not self.instance.acceptable(p, r) or p in self.has or len(self.there[r]) >= self.instance.reviewers[r].capacity:
-            raise self.answer.fault(line.number, f'this can\'t be an answer to {self.instance.file}: {p} can\'t have a place at {r}')
+            what = f'{p} can\'t have a place at {r}'
+            raise self.answer.fault(line.number, f'this can\'t be an answer to {self.instance.file}: {what}')
         self.has[p] = r
         self.there[r].append(p)
 
@@ -57,8 +61,8 @@ class Scheme:
         return self.original('reviewer', name)
 
     def everybody(self):
-        """The proposers and those who were placed beforehand, in the order of the scheme's table: a name of the instance, or None, and
-        the original.
+        """The proposers and those who were placed beforehand, in the order of the scheme's table: a name of the instance, or None,
+        and the original.
         """
         if self.names is None:
             return [(name, name) for name in self.instance.proposers]
@@ -81,15 +85,17 @@ class Scheme:
         return 0 < self.instance.reviewers[r].capacity == len(self.there[r])
 
     def figures(self, p, r):
-        """What ranks a proposer at a reviewer: titles and figures, first the points, then further columns, last the place in the lot."""
+        """What ranks a proposer at a reviewer: titles and figures, first the points, then further columns, last the place in the
+        lot.
+        """
         titles, points = self.instance.reviewers[r].points
         found = list(zip(titles, points.get(p, ())))
         place = self.names.place('proposer', p, r) if self.names else None
         return found + ([('lot', str(place))] if place is not None else [])
 
     def named(self, side, text):
-        """The name in the instance of a proposer or a reviewer by what it is called in the scheme's tables; of somebody who was placed
-        beforehand None.
+        """The name in the instance of a proposer or a reviewer by what it is called in the scheme's tables; of somebody who was
+        placed beforehand None.
         """
         agents = self.instance.proposers if side == 'proposer' else self.instance.reviewers
         originals = {self.original(side, name): name for name in agents}

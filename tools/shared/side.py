@@ -3,7 +3,6 @@ import re
 from array import array
 from decimal import Decimal, InvalidOperation
 
-from .command import Fault
 from .instance import MOST_AGENTS, MOST_CAPACITY, NUMBER
 from .names import near
 from .table import Faults, folded, key_of
@@ -56,21 +55,18 @@ class Side:
         if len(self.columns) < 2:
             marks = [it for it in (';', '\t', '|', ',') if it != table.delimiter and it in ''.join(self.titles)]
             hint = f'; are cells divided by --delimiter {"tab" if marks[0] == chr(9) else repr(marks[0])}?' if marks else ''
-            raise self.fault(f'this table has no column with choices{hint}')
+            raise self.table.fault(f'this table has no column with choices{hint}')
         if form.kind == LONG and len(self.columns) > 3:
-            raise self.fault('a table with a row for each choice has a column with names, one with choices and at most one with '
-                             f'numbers; --skip leaves others out, as {self.titles[self.columns[3]]!r}' +
-                             (', and --then and --then-least break ties by them' if form.has_points else ''))
+            hint = ', and --then and --then-least break ties by them' if form.has_points else ''
+            raise self.table.fault('a table with a row for each choice has a column with names, one with choices and at most one with '
+                                   f'numbers; --skip leaves others out, as {self.titles[self.columns[3]]!r}{hint}')
         if self.then and len(self.columns) < 3:
-            raise self.fault(f'beside {self.titles[self.then[0][0]]!r} this table has no column with points, which come first')
+            title = self.titles[self.then[0][0]]
+            raise self.table.fault(f'beside {title!r} this table has no column with points, which come first')
         self.originals, self.lines, self.capacities, self.rows = [], [], [], []
         self.numbers, self.known, self.left_out, self.away = {}, {}, set(), {}
         self.order, self.choice_lines, self.written, self.struck = [], [], [], set()
         self.lot, self.places = None, {}
-
-    def fault(self, text):
-        """A fault of the row that names the columns."""
-        return Fault(f'{self.file}:{self.table.header.line}: {text}')
 
     def number(self, text):
         """The number of the agent that a text names, or None."""
@@ -131,8 +127,8 @@ class Side:
         self.tell_again(again, faults)
 
     def cells_of(self, agent):
-        """The cells with choices of an agent as triples: the line, the text, and the numbers as they are written, none where the order
-        counts.
+        """The cells with choices of an agent as triples: the line, the text, and the numbers as they are written, none where the
+        order counts.
         """
         for row in map(self.table.rows.__getitem__, self.rows[agent]):
             own = row.cells + [''] * (len(self.titles) - len(row.cells))
@@ -149,7 +145,8 @@ class Side:
         """Tells of rows whose name has a row already; where most have, that these are rows of choices."""
         if len(again) > 2 and len(again) * 2 > len(self.originals):
             line, name = again[0]
-            faults.add(self.file, line, f'most names have several rows, as {name!r} here and on line {self.lines[self.number(name)]}; '
+            there = self.lines[self.number(name)]
+            faults.add(self.file, line, f'most names have several rows, as {name!r} here and on line {there}; '
                        f'--long {self.form.word} takes a table with a row for each choice')
             return
         for line, name in again:
@@ -178,7 +175,8 @@ class Side:
             titles = [self.titles[i] for i in self.columns[1:]] if self.form.kind == RANKS else []
             unknown = [it for it in titles if not other.knows(it)]
             for title in unknown:
-                faults.add(self.file, self.table.header.line, f'the column {title!r} isn\'t in {other.file}; --skip {title!r} leaves it out')
+                what = f'the column {title!r} isn\'t in {other.file}; --skip {title!r} leaves it out'
+                faults.add(self.file, self.table.header.line, what)
             self.left_out.update(unknown)
             return
         titled = next((self.titles[i] for i in self.columns[1:] if other.number(self.titles[i]) is not None), None)
@@ -190,8 +188,9 @@ class Side:
         whole = [it for cells in columns.values() for it in cells]
         if titled is not None:
             numbers = all(number_of(it) is not None for it in whole)
-            faults.add(self.file, self.table.header.line, f'the first row has to name the columns, and has {titled!r} of {other.file}' +
-                       (f'; --ranks {self.form.word} takes a table of ranks' if numbers else '; is a row of titles missing?'))
+            hint = f'--ranks {self.form.word} takes a table of ranks' if numbers else 'is a row of titles missing?'
+            faults.add(self.file, self.table.header.line,
+                       f'the first row has to name the columns, and has {titled!r} of {other.file}; {hint}')
             self.rows = [array('L') for _ in self.rows]
         elif self.strange(whole, other):
             faults.add(self.file, self.table.header.line, f'{self.strange(whole, other)} choice of this table is in {other.file}; '
@@ -219,14 +218,15 @@ class Side:
         if divided:
             return f'; --in-cell \'{divided}\' takes several choices from a cell'
         if all(number_of(it) is not None for it in cells):
-            return f'; its cells are numbers: --ranks {self.form.word} takes a table of ranks, whose columns are called as the other side'
+            return f'; its cells are numbers: --ranks {self.form.word} takes a table of ranks, whose columns are called as the ' \
+                'other side'
         if other is self:
             return '; persons list each other, and for two sides the table of the reviewers is missing'
         return ''
 
     def choices(self, other, faults, struck=frozenset()):
-        """The numbers that each agent lists, best first, and how many neighbours there had equal numbers. Who makes a pair of `struck`
-        with the agent, as a proposer's and a reviewer's number, isn't listed. The rows are let go.
+        """The numbers that each agent lists, best first, and how many neighbours there had equal numbers. Who makes a pair of
+        `struck` with the agent, as a proposer's and a reviewer's number, isn't listed. The rows are let go.
         """
         self.tell_strange(other, faults)
         lists, ties = [], []
@@ -251,8 +251,9 @@ class Side:
                 self.written.append([found[it][2] for it in kept])
         if ties and other.lot is None:
             line, one, two = ties[0]
-            faults.add(self.file, line, f'{other.originals[one]!r} and {other.originals[two]!r} have the same {self.form.number} on the list of '
-                       f'one agent, and there are {len(ties):,} such ties; --lot NUMBER draws a lot by which ties are broken')
+            names = f'{other.originals[one]!r} and {other.originals[two]!r}'
+            faults.add(self.file, line, f'{names} have the same {self.form.number} on the list of one agent, and there are '
+                       f'{len(ties):,} such ties; --lot NUMBER draws a lot by which ties are broken')
         self.rows, self.table.rows = [], []
         return lists, len(ties)
 
@@ -273,7 +274,8 @@ class Side:
         else:
             values = [number_of(it) for it in written] if written else [Decimal(len(found))]
             if None in values:
-                faults.add(self.file, line, f'the {self.called_number(values.index(None))} {written[values.index(None)]!r} is no number')
+                place = values.index(None)
+                faults.add(self.file, line, f'the {self.called_number(place)} {written[place]!r} is no number')
             else:
                 most = [self.form.has_points and written] + [not is_least for _, is_least in self.then]
                 found[number] = tuple(-it if up else it for it, up in zip(values, most)), line, written
@@ -292,7 +294,9 @@ class Side:
         return self.lot.sum_of(self.originals[number], owner) if owner is not None else self.places[self.originals[number]]
 
     def note(self, agent, names):
-        """The points of an agent's list as a comment has them: `points: ann=70 ben=65`, or `points/km: ann=70/2 ben=65/3`; or nothing."""
+        """The points of an agent's list as a comment has them: `points: ann=70 ben=65`, or `points/km: ann=70/2 ben=65/3`; or
+        nothing.
+        """
         rows = self.written[agent] if self.written else []
         if not rows or not rows[0]:
             return ''

@@ -107,7 +107,7 @@ class Claim(Case):
         for old, new, fault in (('no place', 'ohne', '6: \'ohne\' is no reviewer of the instance'), ('Kim;;City Hospital', 'Kim;;North', '2: \'Kim\' was placed '
                                 'beforehand, at \'City Hospital\', and is at \'North\' here'), ('Kim;;City Hospital', 'Kim;;', 'and has no place here'),
                                 ('North', 'north', '\'north\' is no reviewer of the instance; is \'North\' meant?'),
-                                ('reviewer', 'school', '1: there is no column \'Reviewer\' behind the first; the columns are \'proposer\', \'choice\'')):
+                                ('reviewer', 'school', '1: there is no column \'Reviewer\' behind the first one; the columns are \'proposer\', \'choice\'')):
             status, text, told = claimed(table.replace(old, new))
             self.assertEqual((status, text), (1, ''))
             self.assertIn(fault, told)

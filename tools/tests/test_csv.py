@@ -260,7 +260,7 @@ class Tables(unittest.TestCase):
         self.assertEqual(call('r.csv', '--capacity', 'places')[:2], (0, wanted))
         self.assertEqual(call('r.csv', '--skip', 'places', '--one-place')[1], wanted.replace('hospitals', 'marriage').replace(' [2]', ''))
         self.assertEqual(call('s.csv', '--capacities', 'c.csv')[1], wanted.replace('end', 'r y [0]:\nend'))
-        self.assertIn('there is no column \'Platz\'; the columns are \'n\', \'Places\'', call('r.csv', '--capacity', 'Platz')[2])
+        self.assertIn('there is no column \'Platz\' behind the first one; the columns are \'n\', \'Places\'', call('r.csv', '--capacity', 'Platz')[2])
         self.assertIn('said twice', call('r.csv', '--capacity', 'Places', '--capacities', 'c.csv')[2])
         self.put('c.csv', 'n,k\ny,1\ny,2\nz,many\n')
         told = call('s.csv', '--capacities', 'c.csv')[2]
@@ -382,7 +382,7 @@ class Tables(unittest.TestCase):
                           'k.csv:5: this pair has a row already, on line 4'])
         self.put('k.csv', 'n,where\nDi,x\n')
         self.made([p, r], '--strike', 'k.csv')
-        self.assertIn('from_csv: 1 pair is struck; 1 of them stand on no list', self.told)
+        self.assertIn('from_csv: 1 pair is struck; 1 of them stands on no list', self.told)
         self.assertEqual(self.call('from_csv', '--names', 'n', '--placed', 's.csv', 'p.csv')[0], 2)
 
     def test_encodings(self):
@@ -414,7 +414,7 @@ class Tables(unittest.TestCase):
         os.remove(os.path.join(self.folder.name, 'names.csv'))
         for rows, words, fault in (('n,PLZ,Plätze\nx,501,2\ny,502,3\n', [], 'c.csv:1: the columns \'PLZ\', \'Plätze\' have numbers; --capacity COLUMN'),
                                    ('n,Ort\nx,Köln\ny,Bonn\n', [], 'c.csv:1: no column has numbers; the columns are \'n\', \'Ort\'; --capacity'),
-                                   ('n,Plätze\nx,2\ny,3\n', ['--capacity', 'n'], 'c.csv:1: there is no column \'n\' behind the names'),
+                                   ('n,Plätze\nx,2\ny,3\n', ['--capacity', 'n'], 'c.csv:1: there is no column \'n\' behind the first one'),
                                    ('n,Plätze\nx,2\ny,ca. 30\n', [], 'c.csv:3: the capacity \'ca. 30\' is no number')):
             self.put('c.csv', rows)
             self.assertIn(fault, self.refused([p, r], '--capacities', 'c.csv', *words))
