@@ -58,8 +58,8 @@ class Side:
             raise self.table.fault(f'this table has no column with choices{hint}')
         if form.kind == LONG and len(self.columns) > 3:
             hint = ', and --then and --then-least break ties by them' if form.has_points else ''
-            raise self.table.fault('a table with a row for each choice has a column with names, one with choices and at most one with '
-                                   f'numbers; --skip leaves others out, as {self.titles[self.columns[3]]!r}{hint}')
+            raise self.table.fault('a table with a row for each choice has a column with names, one with choices and at most one '
+                                   f'with numbers; --skip leaves others out, as {self.titles[self.columns[3]]!r}{hint}')
         if self.then and len(self.columns) < 3:
             title = self.titles[self.then[0][0]]
             raise self.table.fault(f'beside {title!r} this table has no column with points, which come first')

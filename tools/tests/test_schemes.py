@@ -1,5 +1,5 @@
-"""Made schemes with all that tables have: what `from_csv`, `report`, `appeal`, `weights`, `to_csv` and `claim` make of each is compared with a
-plain recomputation from the tables, which shares nothing with the tools. SCHEMES says how many there are.
+"""Made schemes with all that tables have: what `from_csv`, `report`, `appeal`, `weights`, `to_csv` and `claim` make of each is
+compared with a plain recomputation from the tables, which shares nothing with the tools. SCHEMES says how many there are.
 """
 import csv
 import hashlib
@@ -51,6 +51,7 @@ class Made:
         self.ranked = {}
         for s in self.schools:
             here = [p for p in self.inside if (s, p) in self.points and (p, s) not in self.struck]
+
             def before(p):
                 points, km = self.points[s, p]
                 return -float(str(points).replace(',', '.')), km if self.has_km else 0, self.sum_of(s, p)
@@ -67,7 +68,8 @@ class Made:
     def tables(self):
         """The tables by name: rows."""
         width = max(1, *map(len, self.wishes.values()))
-        rows = {'wishes.csv': [['Nr', 'Mail', *range(1, width + 1)]] + [[p, f'{i}@x', *row] for i, (p, row) in enumerate(self.wishes.items())],
+        rows = {'wishes.csv': [['Nr', 'Mail', *range(1, width + 1)]] +
+                [[p, f'{i}@x', *row] for i, (p, row) in enumerate(self.wishes.items())],
                 'points.csv': [['School', 'Nr', 'Points', 'km']] + [[s, p, *it] for (s, p), it in self.points.items()],
                 'schools.csv': [['School', 'Town', 'Places']] + [[s, 'Köln', it] for s, it in self.places.items()]}
         if self.summed:
@@ -81,7 +83,8 @@ class Made:
 
     def words(self):
         """The words by which from_csv reads the tables."""
-        words = ['--names', 'names.csv', '--encoding', 'cp1252', '--skip', 'Mail', '--skip', 'Town', '--long', 'reviewers', '--points', 'reviewers',
+        words = ['--names', 'names.csv', '--encoding', 'cp1252', '--skip', 'Mail', '--skip', 'Town', '--long', 'reviewers',
+                 '--points', 'reviewers',
                  '--capacities', 'schools.csv', '--lot', '2027']
         words += ['--then-least', 'km'] if self.has_km else ['--skip', 'km']
         words += ['--lot-by', 'school'] if self.by_school else []
@@ -98,7 +101,9 @@ class Made:
     def blocks(self, has, p, s):
         """Whether a pair blocks a matching."""
         own = self.own[p]
-        return s in own and p in self.ranked[s] and has.get(p) != s and (p not in has or own.index(s) < own.index(has[p])) and self.welcome(has, p, s)
+        return s in own and p in self.ranked[s] and has.get(p) != s and (p not in has or
+                                                                         own.index(s) < own.index(has[p])) and self.welcome(has, p,
+                                                                                                                            s)
 
     def stable(self):
         """The pupils' best matching: everybody asks for the next school, as long as somebody is turned down."""
@@ -164,7 +169,8 @@ class Schemes(unittest.TestCase):
         return made, text, names
 
     def put_answer(self, name, names, has):
-        self.put(name, ''.join(['answer solve side=proposers\n', *(f'pair {names["proposer", p]} {names["reviewer", s]}\n' for p, s in has.items()),
+        self.put(name, ''.join(['answer solve side=proposers\n',
+                                *(f'pair {names["proposer", p]} {names["reviewer", s]}\n' for p, s in has.items()),
                                 'end\n']).encode())
 
     def test_all(self):
@@ -186,7 +192,8 @@ class Schemes(unittest.TestCase):
         self.assertEqual(list(market.p.items()), [(p[it], [r[s] for s in made.own[it]]) for it in made.inside])
         self.assertEqual(market.r, {r[s]: [p[it] for it in row] for s, row in made.ranked.items()})
         self.assertEqual(market.capacities, {r[s]: count for s, count in made.left.items()})
-        self.assertEqual({it: name for (side, it), name in names.items() if side == 'placed'}, {it: r[s] for it, s in made.placed.items()})
+        self.assertEqual({it: name for (side, it), name in names.items() if side == 'placed'},
+                         {it: r[s] for it, s in made.placed.items()})
 
     def try_program(self, made, text, names, has):
         """The weights are the ranks, and the program finds the matching, and the least sum."""
@@ -203,9 +210,12 @@ class Schemes(unittest.TestCase):
             self.assertEqual({it for it in lightest if it.startswith('pair ')}, pairs)
 
     def try_report(self, made, has, other):
-        text, _ = self.call('report', 'instance.txt', 'answer.txt', '--names', 'names.csv', '--beside', 'other.txt', '--proposers', 'a.csv', '--reviewers',
-                            'b.csv', '--summary', 'c.csv', '--moves', 'd.csv', '--svg', 'e.svg', '--columns', 'wishes.csv', 'Mail', '--encoding',
+        text, _ = self.call('report', 'instance.txt', 'answer.txt', '--names', 'names.csv', '--beside', 'other.txt', '--proposers',
+                            'a.csv', '--reviewers',
+                            'b.csv', '--summary', 'c.csv', '--moves', 'd.csv', '--svg', 'e.svg', '--columns', 'wishes.csv', 'Mail',
+                            '--encoding',
                             'cp1252')
+
         def at(matching, p):
             return [str(made.own[p].index(matching[p]) + 1), matching[p]] if p in matching else ['', 'no place']
         mail = {p: f'{i}@x' for i, p in enumerate(made.pupils)}
@@ -218,16 +228,20 @@ class Schemes(unittest.TestCase):
         self.assertEqual(sorted(self.rows('b.csv')[1:]), sorted(self.school_row(made, has, s, heads) for s in made.schools))
         self.assertEqual(self.rows('b.csv')[:1], wanted)
         most = max([made.own[p].index(s) + 1 for it in (has, other) for p, s in it.items()], default=0)
-        counts = [[sum(p in it and made.own[p].index(it[p]) + 1 == k if k else p not in it for p in made.inside) for it in (has, other)]
+        counts = [[sum(p in it and made.own[p].index(it[p]) + 1 == k if k else p not in it for p in made.inside)
+                   for it in (has, other)]
                   for k in [*range(1, most + 1), 0]]
-        wanted = [[f'choice {k + 1}' if k < most else 'no place', *(cell for it in row for cell in (str(it), share(it, len(made.inside))))]
+        wanted = [[f'choice {k + 1}' if k < most else 'no place',
+                   *(cell for it in row for cell in (str(it), share(it, len(made.inside))))]
                   for k, row in enumerate(counts)]
         wanted += [['placed beforehand', str(len(made.placed)), '', str(len(made.placed)), '']] if made.placed else []
         self.assertEqual(self.rows('c.csv')[1:], wanted)
+
         def rank(matching, p):
             return made.own[p].index(matching[p]) if p in matching else len(made.own[p])
         moving = [p for p in made.inside if rank(has, p) != rank(other, p)]
-        self.assertEqual(self.rows('d.csv')[1:], [[p, mail[p], *at(has, p), *at(other, p), 'gains' if rank(other, p) < rank(has, p) else 'loses']
+        self.assertEqual(self.rows('d.csv')[1:], [[p, mail[p], *at(has, p), *at(other, p), 'gains' if rank(other, p) < rank(has, p)
+                                                   else 'loses']
                                                   for p in moving])
         gain = sum(rank(other, p) < rank(has, p) for p in moving)
         self.assertIn(f'moves {len(moving)}: gains {gain}, loses {len(moving) - gain}\n', text)
@@ -262,7 +276,8 @@ class Schemes(unittest.TestCase):
         own, ranked = made.own[p], made.ranked[s]
         got = f'got {has[p]}, choice {own.index(has[p]) + 1}' if p in has else 'got no place'
         if s not in own:
-            yield f'{s} {"was struck beforehand from" if (p, s) in made.struck else "isn" + chr(39) + "t on"} the list of {p}; {got}'
+            how = 'was struck beforehand from' if (p, s) in made.struck else 'isn\'t on'
+            yield f'{s} {how} the list of {p}; {got}'
             return
         number = own.index(s) + 1
         if has.get(p) == s:
@@ -282,11 +297,13 @@ class Schemes(unittest.TestCase):
         ranked, left = made.ranked[s], made.left[s]
         there = [q for q in ranked if has.get(q) == s]
         full = bool(there) and len(there) == left
+
         def figures(q):
             points, km = made.points[s, q]
             middle = f', km {km} and ' if made.has_km else ' and '
             return f'{points} points{middle}lot {made.lot(s, q)}'
-        yield f'{left} place{"s" if left != 1 else ""}, {len(there)} taken' + (f'; the last one admitted has {figures(there[-1])}' if full else '')
+        yield f'{left} place{"s" if left != 1 else ""}, {len(there)} taken' + (f'; the last one admitted has {figures(there[-1])}'
+                                                                               if full else '')
         given = sum(it == s for it in made.placed.values())
         if given:
             yield f'{given} more place{"s were" if given > 1 else " was"} given away beforehand'
