@@ -43,60 +43,66 @@ MOST_IN_VECTOR = 4_294_967_295
 MOST_CAPACITY = 4_096
 MOST_WEIGHT = 1_000_000_000
 
-# What each reason of a refusal says.
+# What each reason of a refusal says: docs/FORMATS.md, the manual page and the tools have these texts too, and a test compares them.
 REASONS = {
-    'TooLong': 'the text has more than 16,777,216 bytes',
-    'BadJson': 'the input is no instance in JSON',
-    'BadByte': 'this line has a byte that may only stand in a comment: names have the letters A to Z and a to z, digits, _ . -',
-    'BadHeader': 'the first line has to be `stable 1 marriage`, `stable 1 hospitals` or `stable 1 roommates`, or one of these with 2',
+    'TooLong': 'the input has more than 16,777,216 bytes',
+    'BadJson': 'with `form=json`: the input is no instance in JSON',
+    'BadByte': 'this line has a byte that may only stand in a comment',
+    'BadHeader': 'the first line with a token is no header, or there is none: `stable 1 marriage`, `stable 1 hospitals`, '
+                 '`stable 1 roommates`, or one of these with 2',
     'BadLine': 'this line has none of the forms that its kind of instance has in its format',
-    'BadName': 'a name has 1 to 64 characters, and begins with a letter, a digit or _; a master list in brackets stands above',
-    'BadNumber': 'a number is out of its limits: capacities go from 0 to 4,096, weights from -1,000,000,000 to 1,000,000,000',
+    'BadName': 'what stands in a name\'s place is no name of 1 to 64 characters, or no `master` line above has the name in '
+               'brackets',
+    'BadNumber': 'what stands in a number\'s place is no number, or out of its limits: capacities go from 0 to 4,096, weights '
+                 'from -1,000,000,000 to 1,000,000,000',
     'Redeclared': 'this agent, this master list or the order has a line already',
-    'RepeatedEntry': 'a name stands twice on this list or order',
+    'RepeatedEntry': 'a name stands twice on this list, `master` line or `order` line',
     'RepeatedWeight': 'these two have a weight already',
-    'TooManyAgents': 'a side has more than 4,096 agents',
+    'TooManyAgents': 'with this line a side has more than 4,096 agents',
     'TooManyEntries': 'with this line all lists together have more than 524,288 entries',
     'MissingEnd': 'the line `end` is missing',
-    'UnknownName': 'this line names an agent that has no line of its own on the other side',
-    'AfterEnd': 'there is text behind the line `end`',
-    'WrongKind': 'this command doesn\'t take this kind: only check, list, rest, export and solve without a side take roommates, and '
-                 'rest takes nothing else',
-    'TooManySeats': 'with this reviewer the lists of all seats together have more than 1,048,576 entries: a reviewer adds as many '
-                    'seats as it has places, but no more than acceptable proposers, times its acceptable proposers',
-    'BadCursor': 'the vector to go on behind needs a number for each proposer, or of roommates for each person',
+    'UnknownName': 'a list, also one taken from a master list, a weight, a condition or an `order` line names somebody who has '
+                   'no line',
+    'AfterEnd': 'text stands behind `end`, other than blanks and comments',
+    'WrongKind': 'this command doesn\'t take this kind: only `check`, `list`, `rest`, `export`, and `solve` without a side, '
+                 'take roommates, and `rest` takes nothing else',
+    'TooManySeats': 'with this reviewer the lists of all seats together have more than 1,048,576 entries: a reviewer adds as '
+                    'many seats as it has places, but no more than acceptable proposers, times its acceptable proposers',
+    'BadCursor': 'the vector of `after=` hasn\'t a number for each proposer, or of roommates for each person',
     'TooMany': 'more than 100,000 stable matchings are allowed',
-    'BadAnswer': 'this isn\'t a line that an answer, or a given matching, may have here',
+    'BadAnswer': 'behind `end` this line can\'t stand in two matchings, or for `check` in an answer that it takes',
     'NotStable': 'a given matching isn\'t stable',
 }
 
 # What isn't so where `check` says no.
 VERDICTS = {
-    'NotAMatching': 'the pair isn\'t acceptable, or one of the two has no place left; or these aren\'t the ranks of a matching',
-    'Blocked': 'a pair that isn\'t together would both rather have one another',
-    'NotBest': 'the matching is stable, but another one is better for this side',
-    'WrongList': 'this isn\'t the reduced list, or one is missing',
+    'NotAMatching': 'this pair isn\'t acceptable, or the lines before it in its group leave one of the two no place; or these '
+                    'are the ranks of no matching',
+    'Blocked': 'two who aren\'t together would both rather have one another',
+    'NotBest': 'the matching is stable, but another one is better for its side',
+    'WrongList': 'this isn\'t the reduced list, or a proposer or a seat hasn\'t one line',
     'NotExposed': 'this isn\'t the next rotation',
-    'RotationMissing': 'a rotation is still exposed',
+    'RotationMissing': 'behind these rotations another one is exposed',
     'WrongNeeds': 'these aren\'t the rotations that it needs',
-    'WrongGain': 'the rotation adds another weight',
-    'NoEdge': 'the net has no such edge, or it was named before',
-    'OverRoom': 'the amount isn\'t positive, or there is no room for it',
-    'NotConserved': 'what flows into a rotation doesn\'t flow out of it',
-    'NotClosed': 'a rotation of the set needs one that isn\'t in it, or its matching isn\'t allowed',
-    'WrongValue': 'another amount flows out of the source',
-    'WrongCut': 'the cut of the taken rotations is another one',
-    'CutDiffers': 'cut and value differ',
-    'WrongTotal': 'the matching has another weight',
-    'WrongPair': 'the pair isn\'t in this matching or stands twice, or one is missing',
-    'NotLeast': 'the flow still reaches other rotations than those taken',
-    'NotRising': 'the vector isn\'t above the one before it, or above the cursor',
-    'NotAllowed': 'the forced and forbidden pairs don\'t allow this matching',
+    'WrongGain': 'this isn\'t what the rotation adds to the sum, or to the second one',
+    'NoEdge': 'the net, or for `flow2` the second net, has no such edge, or an earlier line names it',
+    'OverRoom': 'the amount isn\'t positive, or more than the edge has room for',
+    'NotConserved': 'what flows into a rotation isn\'t what flows out of it',
+    'NotClosed': 'a taken rotation needs one that isn\'t taken, or the conditions don\'t allow the matching',
+    'WrongValue': 'this isn\'t what flows out of `S`',
+    'WrongCut': 'this isn\'t the cut of the taken rotations',
+    'CutDiffers': 'cut and value differ, so it isn\'t shown that nothing is lighter',
+    'WrongTotal': 'this isn\'t the sum, or the second sum, of the matching',
+    'WrongPair': 'this pair isn\'t in the matching, or stands twice; at `end`, a pair is missing',
+    'NotLeast': 'the flow, in two levels the second one, still reaches other rotations than the taken ones',
+    'NotRising': 'in the instance\'s order this vector doesn\'t come after the one before it, or the first one not after the '
+                 'cursor',
+    'NotAllowed': 'the conditions don\'t allow the matching',
     'OverLimit': 'there are more vectors than the limit',
-    'WrongTail': 'the last line isn\'t the one that so many vectors have',
+    'WrongTail': 'there aren\'t as many vectors as the limit, or the last one isn\'t repeated here',
     'WrongRegret': 'the matching has another regret',
-    'NotPartition': 'the parties aren\'t a stable partition of all persons',
-    'NoOddParty': 'no party of three or more is odd',
+    'NotPartition': 'a person stands twice or nowhere, or the parties aren\'t a stable partition',
+    'NoOddParty': 'no party of three or more is odd, so nothing excludes a stable matching',
 }
 
 # Why there is no answer, by status.
@@ -499,7 +505,7 @@ class _Side:
                 others = f', nor have {len(missing) - 1} others' if missing[1:] else ''
                 raise ValueError(f'{missing[0]!r} has no capacity{others}')
             places = {name: operator.index(capacities[name]) for name in kept}
-        side = _Side(word, kept, _sound_names(list(kept), letter), places)
+        side = _Side(word, kept, sound_names(list(kept), letter), places)
         for name in capacities or ():
             side.name(name, 'the capacities')
         return side
@@ -1043,7 +1049,7 @@ def _can_run(path: str) -> bool:
     return os.path.isfile(path) and os.access(path, os.X_OK)
 
 
-# From names to those of the text: the rules are those of tools/from_csv.
+# From names to those of the text, also for tools/from_csv.
 
 _NAME = re.compile(r'[A-Za-z0-9_][A-Za-z0-9_.-]{0,63}\Z')
 _LETTERS = {'ß': 'ss', 'æ': 'ae', 'Æ': 'Ae', 'œ': 'oe', 'Œ': 'Oe', 'ø': 'o', 'Ø': 'O', 'ł': 'l', 'Ł': 'L', 'đ': 'd', 'Đ': 'D',
@@ -1060,7 +1066,7 @@ def _cleaned(original: str) -> Optional[str]:
     return name if _NAME.match(name) else None
 
 
-def _sound_names(originals: Sequence[str], letter: str) -> List[str]:
+def sound_names(originals: Sequence[str], letter: str) -> List[str]:
     """A name of the text's form for each original: the same where it has that form, else a cleaned form that no other agent
     has, else the letter with the agent's number.
     """

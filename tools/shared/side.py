@@ -1,54 +1,72 @@
 """One side of an instance as a table has it: its agents, how many each takes, and whom each lists."""
-import difflib
+import re
 from array import array
 from decimal import Decimal, InvalidOperation
 
-from .command import Fault
 from .instance import MOST_AGENTS, MOST_CAPACITY, NUMBER
-from .names import key_of
-from .table import Faults
+from .names import near
+from .table import Faults, folded, key_of
 
 WIDE, RANKS, LONG = 'wide', 'ranks', 'long'
 MARKS = ';,|/'
 
 
 class Form:
-    """How a side's table is to be read: its form, whether numbers are points, of which the most is best, and the mark between
-    choices in a cell.
+    """How a side's table is to be read: its form, whether numbers are points, of which the most is best, the mark between choices
+    in a cell, and the further columns with numbers, each with whether the least is best there.
     """
 
-    def __init__(self, word, kind=WIDE, has_points=False, mark=None):
-        self.word, self.kind, self.has_points, self.mark = word, kind, has_points, mark
+    def __init__(self, word, kind=WIDE, has_points=False, mark=None, then=()):
+        self.word, self.kind, self.has_points, self.mark, self.then = word, kind, has_points, mark, then
         self.number = 'points' if has_points else 'rank'
+
+
+class Log:
+    """What is told of rows that have no effect: each with its file and line, and how many there are of each kind."""
+
+    def __init__(self):
+        self.lines, self.counts = [], {}
+
+    def add(self, kind, file, line, text):
+        """Takes a row, or a choice."""
+        self.lines.append(f'{file}:{line}: {text}')
+        self.counts[kind] = self.counts.get(kind, 0) + 1
 
 
 class Side:
     """The agents of one table, in the order of their rows: originals, capacities, lines, and the numbers of their rows with
-    choices. Cells with a text of `left_out` count as empty.
+    choices. Cells with a text of `left_out` count as empty. Who is in `away` was placed beforehand and is no agent: the original of
+    each that the table has, or None.
     """
 
-    def __init__(self, table, form, letter, skipped, capacity):
-        self.table, self.file, self.form, self.letter = table, table.file, form, letter
+    def __init__(self, table, form, letter, capacity, log):
+        self.table, self.file, self.last_file, self.form, self.letter, self.log = table, table.file, table.file, form, letter, log
         self.titles = table.header.cells
-        keys = [key_of(it).casefold() for it in self.titles]
-        self.columns = [i for i, it in enumerate(keys) if it not in skipped]
-        self.capacity = next((i for i in self.columns[1:] if keys[i] == capacity), None)
+        self.columns = list(range(len(self.titles)))
+        self.capacity = next((i for i in self.columns[1:] if folded(self.titles[i]) == capacity), None)
         if self.capacity is not None:
             self.columns.remove(self.capacity)
+        self.then = []
+        for title, is_least in form.then if form.kind == LONG and form.has_points else ():
+            column = next((i for i in self.columns[1:] if folded(self.titles[i]) == folded(title)), None)
+            if column is not None:
+                self.columns.remove(column)
+                self.then.append((column, is_least))
         if len(self.columns) < 2:
             marks = [it for it in (';', '\t', '|', ',') if it != table.delimiter and it in ''.join(self.titles)]
             hint = f'; are cells divided by --delimiter {"tab" if marks[0] == chr(9) else repr(marks[0])}?' if marks else ''
-            raise self.fault(f'this table has no column with choices{hint}')
+            raise self.table.fault(f'this table has no column with choices{hint}')
         if form.kind == LONG and len(self.columns) > 3:
-            raise self.fault('a table with a row for each choice has a column with names, one with choices and at most one with '
-                             f'numbers; --skip leaves others out, as {self.titles[self.columns[3]]!r}')
+            hint = ', and --then and --then-least break ties by them' if form.has_points else ''
+            raise self.table.fault('a table with a row for each choice has a column with names, one with choices and at most one '
+                                   f'with numbers; --skip leaves others out, as {self.titles[self.columns[3]]!r}{hint}')
+        if self.then and len(self.columns) < 3:
+            title = self.titles[self.then[0][0]]
+            raise self.table.fault(f'beside {title!r} this table has no column with points, which come first')
         self.originals, self.lines, self.capacities, self.rows = [], [], [], []
-        self.numbers, self.known, self.left_out = {}, {}, set()
-        self.lot = None
-
-    def fault(self, text):
-        """A fault of the row that names the columns."""
-        return Fault(f'{self.file}:{self.table.header.line}: {text}')
+        self.numbers, self.known, self.left_out, self.away = {}, {}, set(), {}
+        self.order, self.choice_lines, self.written, self.struck = [], [], [], set()
+        self.lot, self.places = None, {}
 
     def number(self, text):
         """The number of the agent that a text names, or None."""
@@ -56,9 +74,22 @@ class Side:
             self.known[text] = self.numbers.get(key_of(text))
         return self.known[text]
 
+    def is_away(self, text):
+        """Whether a text names somebody who was placed beforehand."""
+        return bool(self.away) and key_of(text) in self.away
+
+    def knows(self, text):
+        """Whether a text names an agent, or one who was placed beforehand."""
+        return self.number(text) is not None or self.is_away(text)
+
+    def pass_over(self, file, line, name):
+        """Passes over a row or a choice of another table about somebody who was placed."""
+        self.log.add('placed', file, line, f'{name!r} was placed beforehand: passed over')
+
     def add(self, name, line, capacity):
         """Adds an agent."""
         self.numbers[key_of(name)] = len(self.originals)
+        self.order.append((len(self.originals), name))
         self.originals.append(name)
         self.lines.append(line)
         self.capacities.append(capacity)
@@ -71,10 +102,15 @@ class Side:
         for place, row in enumerate(self.table.rows):
             cells = row.cells + [''] * (width - len(row.cells))
             name = cells[self.columns[0]]
-            if any(cells[width:]):
-                faults.add(self.file, row.line, f'this row has more cells than the first one, which has {width}')
-            elif not name:
-                faults.add(self.file, row.line, 'this row has no name')
+            if row.line in self.table.long:
+                faults.add(self.file, row.line, f'this row has more cells than the first one, which has {self.table.width}')
+            if not name:
+                if row.line not in self.table.long:
+                    faults.add(self.file, row.line, 'this row has no name')
+            elif self.is_away(name):
+                if self.away[key_of(name)] is None:
+                    self.away[key_of(name)] = name
+                    self.order.append((None, name))
             elif key_of(name) not in self.numbers:
                 if len(self.originals) == MOST_AGENTS:
                     faults.add(self.file, row.line, f'there are more than {MOST_AGENTS:,} rows of agents')
@@ -91,25 +127,26 @@ class Side:
         self.tell_again(again, faults)
 
     def cells_of(self, agent):
-        """The cells with choices of an agent as triples: the line, the text, and the number as it is written, or None where there
-        is no number and the order counts.
+        """The cells with choices of an agent as triples: the line, the text, and the numbers as they are written, none where the
+        order counts.
         """
         for row in map(self.table.rows.__getitem__, self.rows[agent]):
             own = row.cells + [''] * (len(self.titles) - len(row.cells))
             cells = [own[i] for i in self.columns[1:]]
             if self.form.kind == WIDE:
-                own = [(row.line, it, None) for it in cells if it]
+                own = [(row.line, it, ()) for it in cells if it]
             elif self.form.kind == RANKS:
-                own = [(row.line, self.titles[i], it) for i, it in zip(self.columns[1:], cells) if it]
+                own = [(row.line, self.titles[i], (it,)) for i, it in zip(self.columns[1:], cells) if it]
             else:
-                own = [(row.line, cells[0], cells[1] if len(cells) > 1 else None)] if cells[0] else []
+                own = [(row.line, cells[0], (*cells[1:2], *(own[i] for i, _ in self.then)))] if cells[0] else []
             yield from (it for it in own if it[1] not in self.left_out)
 
     def tell_again(self, again, faults):
         """Tells of rows whose name has a row already; where most have, that these are rows of choices."""
         if len(again) > 2 and len(again) * 2 > len(self.originals):
             line, name = again[0]
-            faults.add(self.file, line, f'most names have several rows, as {name!r} here and on line {self.lines[self.number(name)]}; '
+            there = self.lines[self.number(name)]
+            faults.add(self.file, line, f'most names have several rows, as {name!r} here and on line {there}; '
                        f'--long {self.form.word} takes a table with a row for each choice')
             return
         for line, name in again:
@@ -126,7 +163,7 @@ class Side:
         """
         known = 0
         for cell in cells:
-            if any(other.number(it) is not None for it in parts_of(cell, self.form.mark)):
+            if any(other.knows(it) for it in parts_of(cell, self.form.mark)):
                 known += 1
                 if known * 10 >= len(cells):
                     return ''
@@ -136,9 +173,10 @@ class Side:
         """Tells once of a table or of a column without a known name; the choices there are left out then."""
         if self.form.kind != WIDE:
             titles = [self.titles[i] for i in self.columns[1:]] if self.form.kind == RANKS else []
-            unknown = [it for it in titles if other.number(it) is None]
+            unknown = [it for it in titles if not other.knows(it)]
             for title in unknown:
-                faults.add(self.file, self.table.header.line, f'the column {title!r} isn\'t in {other.file}; --skip {title!r} leaves it out')
+                what = f'the column {title!r} isn\'t in {other.file}; --skip {title!r} leaves it out'
+                faults.add(self.file, self.table.header.line, what)
             self.left_out.update(unknown)
             return
         titled = next((self.titles[i] for i in self.columns[1:] if other.number(self.titles[i]) is not None), None)
@@ -150,8 +188,9 @@ class Side:
         whole = [it for cells in columns.values() for it in cells]
         if titled is not None:
             numbers = all(number_of(it) is not None for it in whole)
-            faults.add(self.file, self.table.header.line, f'the first row has to name the columns, and has {titled!r} of {other.file}' +
-                       (f'; --ranks {self.form.word} takes a table of ranks' if numbers else '; is a row of titles missing?'))
+            hint = f'--ranks {self.form.word} takes a table of ranks' if numbers else 'is a row of titles missing?'
+            faults.add(self.file, self.table.header.line,
+                       f'the first row has to name the columns, and has {titled!r} of {other.file}; {hint}')
             self.rows = [array('L') for _ in self.rows]
         elif self.strange(whole, other):
             faults.add(self.file, self.table.header.line, f'{self.strange(whole, other)} choice of this table is in {other.file}; '
@@ -170,7 +209,7 @@ class Side:
 
     def unknown(self, cells, other):
         """The first of some cells without a name of the other table."""
-        return next(it for it in cells if not any(other.number(part) is not None for part in parts_of(it, self.form.mark)))
+        return next(it for it in cells if not any(other.knows(part) for part in parts_of(it, self.form.mark)))
 
     def strange_hint(self, cells, other):
         """What a table without a known name may be."""
@@ -179,50 +218,90 @@ class Side:
         if divided:
             return f'; --in-cell \'{divided}\' takes several choices from a cell'
         if all(number_of(it) is not None for it in cells):
-            return f'; its cells are numbers: --ranks {self.form.word} takes a table of ranks, whose columns are called as the other side'
+            return f'; its cells are numbers: --ranks {self.form.word} takes a table of ranks, whose columns are called as the ' \
+                'other side'
         if other is self:
             return '; persons list each other, and for two sides the table of the reviewers is missing'
         return ''
 
-    def choices(self, other, faults):
-        """The numbers that each agent lists, best first, and how many neighbours there had equal numbers. The rows are let go."""
+    def choices(self, other, faults, struck=frozenset()):
+        """The numbers that each agent lists, best first, and how many neighbours there had equal numbers. Who makes a pair of
+        `struck` with the agent, as a proposer's and a reviewer's number, isn't listed. The rows are let go.
+        """
         self.tell_strange(other, faults)
         lists, ties = [], []
         for agent, name in enumerate(self.originals):
             found = {}
             for line, cell, written in self.cells_of(agent):
-                for choice in parts_of(cell, self.form.mark if written is None else None):
-                    number = other.number(choice)
-                    value = number_of(written) if written is not None else len(found)
-                    if number is None:
-                        hint = likely(choice, other) if len(faults.texts) < Faults.MOST else ''
-                        faults.add(self.file, line, f'{shown(choice)} isn\'t in {other.file}{hint}')
-                    elif other is self and self.originals[number] == name:
-                        if self.form.kind != RANKS:
-                            faults.add(self.file, line, f'{name!r} lists itself')
-                    elif number in found:
-                        faults.add(self.file, line, f'{choice!r} stands twice on this list')
-                    elif value is None:
-                        faults.add(self.file, line, f'the {self.form.number} {written!r} is no number')
-                    else:
-                        found[number] = (-value if self.form.has_points and written is not None else value, line)
-            lists.append(list(found))
-            if self.form.kind == WIDE:
-                continue
-            lists[-1].sort(key=lambda it: (found[it][0], other.lot[it] if other.lot else 0))
-            ties += [(found[two][1], one, two) for one, two in zip(lists[-1], lists[-1][1:]) if found[one][0] == found[two][0]]
+                for choice in parts_of(cell, self.form.mark if not written else None):
+                    self.take(other, faults, agent, found, (line, choice, written))
+            pairs = {it: (agent, it) if self.letter == 'p' else (it, agent) for it in found} if struck else {}
+            self.struck.update(struck.intersection(pairs.values()))
+            kept = [it for it in found if pairs.get(it) not in struck]
+            if self.form.kind != WIDE:
+                kept.sort(key=lambda it: found[it][0])
+                equal = [found[one][0] == found[two][0] for one, two in zip(kept, kept[1:])]
+                ties += [(found[two][1], one, two) for one, two, it in zip(kept, kept[1:], equal) if it]
+                if other.lot and any(equal):
+                    owner = name if other.lot.each_list else None
+                    kept.sort(key=lambda it: (found[it][0], other.sum_of(it, owner)))
+            lists.append(kept)
+            self.choice_lines.append(array('L', (found[it][1] for it in kept)))
+            if self.form.has_points:
+                self.written.append([found[it][2] for it in kept])
         if ties and other.lot is None:
             line, one, two = ties[0]
-            faults.add(self.file, line, f'{other.originals[one]!r} and {other.originals[two]!r} have the same {self.form.number} on the list of '
-                       f'one agent, and there are {len(ties):,} such ties; --lot NUMBER draws a lot by which ties are broken')
+            names = f'{other.originals[one]!r} and {other.originals[two]!r}'
+            faults.add(self.file, line, f'{names} have the same {self.form.number} on the list of one agent, and there are '
+                       f'{len(ties):,} such ties; --lot NUMBER draws a lot by which ties are broken')
         self.rows, self.table.rows = [], []
         return lists, len(ties)
 
-    def draw(self, seed):
-        """Draws a lot: agents come in the order of the SHA-256 sums of the lot's number, a blank and their names."""
-        import hashlib  # takes 4 MB, and is for lots alone
-        sums = {i: hashlib.sha256(f'{seed} {key_of(it)}'.encode()).digest() for i, it in enumerate(self.originals)}
-        self.lot = {number: place for place, number in enumerate(sorted(sums, key=sums.get), 1)}
+    def take(self, other, faults, agent, found, cell):
+        """Takes one choice of an agent, with its line and numbers, or tells what is wrong with it."""
+        line, choice, written = cell
+        name, number = self.originals[agent], other.number(choice)
+        if number is None and other.is_away(choice):
+            other.pass_over(self.file, line, choice)
+        elif number is None:
+            hint = likely(choice, other) if len(faults.texts) < Faults.MOST else ''
+            faults.add(self.file, line, f'{shown(choice)} isn\'t in {other.file}{hint}')
+        elif other is self and number == agent:
+            if self.form.kind != RANKS:
+                faults.add(self.file, line, f'{name!r} lists itself')
+        elif number in found:
+            faults.add(self.file, line, f'{choice!r} stands twice on this list')
+        else:
+            values = [number_of(it) for it in written] if written else [Decimal(len(found))]
+            if None in values:
+                place = values.index(None)
+                faults.add(self.file, line, f'the {self.called_number(place)} {written[place]!r} is no number')
+            else:
+                most = [self.form.has_points and written] + [not is_least for _, is_least in self.then]
+                found[number] = tuple(-it if up else it for it, up in zip(values, most)), line, written
+
+    def called_number(self, place):
+        """What faults call a number of a row: the first one, or that of a further column."""
+        return self.form.number if place == 0 else self.titles[self.then[place - 1][0]]
+
+    def draw(self, lot):
+        """Draws a lot over the agents; they have places in it, if it isn't one for each list."""
+        self.lot = lot
+        self.places = {} if lot.each_list else lot.places(self.originals)
+
+    def sum_of(self, number, owner):
+        """By what an agent comes in the lot, on the list of `owner`, or on all lists alike."""
+        return self.lot.sum_of(self.originals[number], owner) if owner is not None else self.places[self.originals[number]]
+
+    def note(self, agent, names):
+        """The points of an agent's list as a comment has them: `points: ann=70 ben=65`, or `points/km: ann=70/2 ben=65/3`; or
+        nothing.
+        """
+        rows = self.written[agent] if self.written else []
+        if not rows or not rows[0]:
+            return ''
+        titles = ['points'] + [' '.join(re.sub('[#:/]', ' ', self.titles[i]).split()) for i, _ in self.then]
+        return f' # {"/".join(titles)}: ' + ' '.join(f'{name}={"/".join(numbers)}' for name, numbers in zip(names, rows))
 
 
 def capacity_of(text, file, line, faults):
@@ -256,9 +335,9 @@ def likely(choice, other):
     """A name that may have been meant, or what else may be wrong."""
     if key_of(choice) == key_of(other.titles[other.columns[0]]):
         return '; the first row of a table only names the columns'
-    near = difflib.get_close_matches(choice, other.originals[:500], 1, 0.8)
-    if near:
-        return f'; is {near[0]!r} meant?'
+    meant = near(choice, other.originals, 0.8)
+    if meant:
+        return f'; is {meant!r} meant?'
     for mark in MARKS:
         if mark in choice and all(other.number(it) is not None for it in parts_of(choice, mark)):
             return f'; --in-cell \'{mark}\' takes several choices from a cell'

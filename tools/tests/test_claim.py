@@ -8,7 +8,10 @@ import unittest
 import brute
 import inside
 import program
-from shared.reasons import COMMANDS, REFUSALS, VERDICTS
+from shared.module import module
+from shared.reasons import COMMANDS, HINTS
+
+REASONS, VERDICTS = module().REASONS, module().VERDICTS
 
 TOP = os.path.join(inside.TOOLS, '..')
 
@@ -57,7 +60,8 @@ class Claim(Case):
         return told
 
     def test_claims(self):
-        table = 'who,where,note\n"Ann, A.",City Hospital,x\n\nBen, city hospital ,\nCem,North\nDan,\nÉve,West\n'.replace('city h', 'City h')
+        table = 'who,where,note\n"Ann, A.",City Hospital,x\n\nBen, city hospital ,\nCem,North\nDan,\nÉve,West\n'.replace('city h',
+                                                                                                                         'City h')
         table = table.replace('City hospital', 'City  Hospital')
         pairs = ['ann city', 'ben city', 'cem north', 'eve west']
         for words, head, keyword in (([], ['answer solve side=proposers'], 'pair'),
@@ -65,7 +69,8 @@ class Claim(Case):
                                      (['--as', 'stable'], ['answer regret', 'regret 3'], 'pair')):
             lines, told = self.claimed(self.hospitals, table, '--names', 'names.csv', *words)
             self.assertEqual((lines, told), (head + [f'{keyword} {it}' for it in pairs] + ['end', ''], ''))
-        lines, _ = self.claimed(self.hospitals, table.replace(',', ';').replace('Ann;', 'Ann,'), '--names', 'names.csv', '--as', 'meet')
+        lines, _ = self.claimed(self.hospitals, table.replace(',', ';').replace('Ann;', 'Ann,'), '--names', 'names.csv', '--as',
+                                'meet')
         self.assertEqual(lines, [f'{it} {pair}' for it in ('left', 'right') for pair in pairs] + ['end', ''])
 
     def test_without_rows(self):
@@ -88,6 +93,30 @@ class Claim(Case):
         self.assertIn('standard input:2: here a is with b, and on line 3 b is with c', told)
         self.assertIn('on line 3 b is with nobody', self.refused(ROOMS, 'person,partner\na,b\nb,\n'))
         self.assertIn('roommates have no sides', self.refused(ROOMS, 'person,partner\na,b\n', '--as', 'meet', status=2))
+
+    def test_published(self):
+        """The table of report: the partner in another column, `no place` or own words for it, and who was placed beforehand."""
+        names = NAMES + 'placed,city,Kim\n'
+        table = '\ufeffproposer;choice;reviewer\r\nKim;;City Hospital\r\n"Ann, A.";1;City Hospital\r\nBen;1;City Hospital\r\n' \
+            'Cem;1;North\r\nDan;;no place\r\nÉve;1;West\r\n'
+        self.put('i.txt', self.hospitals)
+        self.put('names.csv', names)
+
+        def claimed(table, *words):
+            return self.call('claim', 'i.txt', '--names', 'names.csv', '--partner', 'Reviewer', *words, stdin=table)
+        wanted = self.hospitals + 'answer solve side=proposers\npair ann city\npair ben city\npair cem north\npair eve west\nend\n'
+        self.assertEqual(claimed(table), (0, wanted, ''))
+        self.assertEqual(claimed(table.replace('no place', 'ohne'), '--no-place', 'ohne'), (0, wanted, ''))
+        for old, new, fault in (('no place', 'ohne', '6: \'ohne\' is no reviewer of the instance'),
+                                ('Kim;;City Hospital', 'Kim;;North', '2: \'Kim\' was placed '
+                                'beforehand, at \'City Hospital\', and is at \'North\' here'),
+                                ('Kim;;City Hospital', 'Kim;;', 'and has no place here'),
+                                ('North', 'north', '\'north\' is no reviewer of the instance; is \'North\' meant?'),
+                                ('reviewer', 'school',
+                                 '1: there is no column \'Reviewer\' behind the first one; the columns are \'proposer\', ')):
+            status, text, told = claimed(table.replace(old, new))
+            self.assertEqual((status, text), (1, ''))
+            self.assertIn(fault, told)
 
     def test_refused(self):
         for table, what in (('ann,city\nben,city\n', 'standard input:1: this row has a pair already: a first row'),
@@ -131,60 +160,75 @@ class Explain(Case):
         two = 'stable 1 marriage\n'
         for text, refusal, what in (
                 (two + 'p m: a, b\n', 'BadByte 2', 'names on a list have a blank between them'),
-                (two + 'p m: (a b)\n', 'BadByte 2', 'lists have no ties'), (two + 'p m&n: a\n', 'BadByte 2', '\'&\' can\'t stand here'),
-                (two + 'p Mü: a\n', 'BadByte 2', 'tools/from_csv makes such names'), ('\xef\xbb\xbf' + two, 'BadByte 1', 'byte order mark'),
-                ('\xff\xfes\0t\0', 'BadByte 1', 'UTF-16'), ('{"kind"', 'BadByte 1', 'is lines'), ('stable 1 marriage\rp a:', 'BadByte 1', 'CR alone'),
+                (two + 'p m: (a b)\n', 'BadByte 2', 'lists have no ties'),
+                (two + 'p m&n: a\n', 'BadByte 2', '\'&\' can\'t stand here'),
+                (two + 'p Mü: a\n', 'BadByte 2', 'tools/from_csv makes such names'),
+                ('\xef\xbb\xbf' + two, 'BadByte 1', 'byte order mark'),
+                ('\xff\xfes\0t\0', 'BadByte 1', 'UTF-16'), ('{"kind"', 'BadByte 1', 'is lines'),
+                ('stable 1 marriage\rp a:', 'BadByte 1', 'CR alone'),
                 (two + 'endanswer solve side=proposers\n', 'BadByte 2', 'has no end of its own'),
                 ('p m: a\n', 'BadHeader 1', '`stable 1 marriage`'), (two + 'END\n', 'BadLine 2', 'small letters'),
-                (two + 'r a [2]: m\n', 'BadLine 2', 'stable 1 hospitals'), ('stable 1 roommates\nr a: b\n', 'BadLine 2', 'p lines alone'),
+                (two + 'r a [2]: m\n', 'BadLine 2', 'stable 1 hospitals'),
+                ('stable 1 roommates\nr a: b\n', 'BadLine 2', 'p lines alone'),
                 ('stable 1 hospitals\nr a 2: m\n', 'BadLine 2', 'in brackets'), (two + 'p m a\n', 'BadLine 2', 'a `:` stands'),
                 (two + 'p m n: a\n', 'BadLine 2', 'no blank within'), (two + 'weight m a\n', 'BadLine 2', 'and a number'),
                 (two + 'q m: a\n', 'BadLine 2', 'begins with p, r'), (two + 'pair m a\n', 'BadLine 2', 'behind the line `end`'),
                 (two + two, 'BadLine 2', 'stands once'), (two + 'p -m: a\n', 'BadName 2', 'at most 64'),
-                ('stable 1 hospitals\nr a [x]: m\n', 'BadNumber 2', 'from 0 to 4,096'), (two + 'p m:\np m:\n', 'Redeclared 3', 'one line'),
+                ('stable 1 hospitals\nr a [x]: m\n', 'BadNumber 2', 'without a leading 0'),
+                (two + 'p m:\np m:\n', 'Redeclared 3', 'one line'),
                 (two + 'p m: a a\n', 'RepeatedEntry 2', 'strike'), (two, 'MissingEnd 2', 'behind the last'),
                 (two + 'p m: hostal\nr hospital:\nend\n', 'UnknownName 2', 'is hospital meant?'),
-                (two + 'p m: 1\nr a:\nend\n', 'UnknownName 2', 'no ranks'), (two + 'p m: n\np n:\nr a:\nend\n', 'UnknownName 2', 'n is of the same side'),
-                (two + 'p m: z\nr a:\nend\n', 'UnknownName 2', 'a line of its own'), (two + 'p m:\nr a:\nforce a m\nend\n', 'UnknownName 4', 'first'),
-                (two + 'end\nend\n', 'AfterEnd 3', '`check` read'), ('stable 1 roommates\nend\n', 'WrongKind 1', '`solve` without a side'),
+                (two + 'p m: 1\nr a:\nend\n', 'UnknownName 2', 'no ranks'),
+                (two + 'p m: n\np n:\nr a:\nend\n', 'UnknownName 2', 'n is of the same side'),
+                (two + 'p m: z\nr a:\nend\n', 'UnknownName 2', 'a line of its own'),
+                (two + 'p m:\nr a:\nforce a m\nend\n', 'UnknownName 4', 'first'),
+                (two + 'end\nend\n', 'AfterEnd 3', '`check` read'),
+                ('stable 1 roommates\nend\n', 'WrongKind 1', '`solve` without a side'),
                 ('stable 1 hospitals\nend\n', 'TooManySeats 2', 'tools/trim'), (two + 'end\n', 'BadCursor 0', 'own listing'),
                 (two + 'end\n', 'NewReason 1', 'NewReason')):
             lines = self.told(text, 'refused ' + refusal)
             self.assertTrue(lines[0].startswith('raw' if refusal.endswith(' 0') else f'raw:{refusal.split()[1]}: '), lines)
             self.assertIn(what, lines[-1], (text, lines))
         self.assertEqual(self.told(two + 'p m: hostal\nr hospital:\nend\n', 'refused UnknownName 2')[:2],
-                         ['raw:2: p m: hostal', 'nobody has this name: hostal (UnknownName)'])
+                         ['raw:2: p m: hostal', f'hostal: {REASONS["UnknownName"]} (UnknownName)'])
 
     def test_answers(self):
         """What may be wrong behind the instance."""
         head = 'answer solve side=proposers\n'
         for text, line, what in (
-                ('', 13, 'nothing stands behind'), (head + 'pair ann city\n', 15, 'closing line'), (head + '\nend\n', 14, 'no empty line'),
+                ('', 13, 'nothing stands behind'), (head + 'pair ann city\n', 15, 'closing line'),
+                (head + '\nend\n', 14, 'no empty line'),
                 (head + 'pair ann city # x\nend\n', 14, 'no comments'), (head + 'pair ann  city\nend\n', 14, 'one blank'),
-                ('pair ann city\nend\n', 13, 'an answer begins'), ('answer pairs\nall ann city\nend\n', 13, '`pairs` can\'t be judged'),
-                ('answer solve\npair ann city\nend\n', 13, 'has a side'), (head + 'pair dan -\nend\n', 14, 'no partner has no line'),
+                ('pair ann city\nend\n', 13, 'an answer begins'),
+                ('answer pairs\nall ann city\nend\n', 13, '`pairs` can\'t be judged'),
+                ('answer solve\npair ann city\nend\n', 13, 'has a side'),
+                (head + 'pair dan -\nend\n', 14, 'no partner has no line'),
                 (head + 'pair ann city/1\nend\n', 14, 'without seats'), (head + 'pair ann citi\nend\n', 14, 'citi; is city meant?'),
-                ('answer regret\nnone\nend\n', 14, 'shows nothing'), (head + 'pairs ann city\nend\n', 14, 'an answer is its first line')):
+                ('answer regret\nnone\nend\n', 14, 'shows nothing'),
+                (head + 'pairs ann city\nend\n', 14, 'an answer is its first line')):
             self.assertIn(what, self.told(self.hospitals + text, f'refused BadAnswer {line}')[-1])
 
     def test_reasons(self):
         """Each reason of docs/FORMATS.md has its sentence."""
         formats = text_of(TOP, 'docs', 'FORMATS.md')
         refusals = re.findall(r'^\| `(\w+)` \|', formats.split('\n## Refusals\n')[1], re.M)
-        self.assertEqual(sorted(REFUSALS), sorted(refusals))
+        self.assertEqual((list(REASONS), list(HINTS)), (refusals, refusals))
         verdicts = re.findall(r'^\| `(\w+)` \|', formats.split('| Reason | At |')[1].split('\n\n')[0], re.M)
         self.assertEqual(list(VERDICTS), verdicts)
         commands = re.findall(r'^\| `([a-z]+)[^`]*` \|', formats.split('\n## The command line\n')[1].split('\n## ')[0], re.M)
         self.assertEqual(list(COMMANDS), list(dict.fromkeys(commands)))
         for reason in set(VERDICTS) - {'Blocked'}:
-            self.assertIn(VERDICTS[reason], self.told(self.hospitals + 'answer rotations\nend\n', f'answer check\nno 14 {reason}\nend'))
+            self.assertIn(VERDICTS[reason], self.told(self.hospitals + 'answer rotations\nend\n',
+                                                      f'answer check\nno 14 {reason}\nend'))
 
     def test_usage(self):
         self.put('f.txt', '')
         for number, words, what in (
-                (2, 'solve f.txt', '< f.txt'), (1, '', 'solve, reduced'), (1, 'Solve', 'is solve meant?'), (1, '--list', 'is list meant?'),
+                (2, 'solve f.txt', '< f.txt'), (1, '', 'solve, reduced'), (1, 'Solve', 'is solve meant?'),
+                (1, '--list', 'is list meant?'),
                 (1, 'rotation', 'is rotations meant?'), (1, 'xyz', 'solve, reduced'), (2, 'list limit=0', 'from 1 to 1,000,000'),
-                (2, 'list limit 5', 'list takes after='), (2, 'solve side=women', 'side=proposers or'), (2, 'weight', 'by=ranks or by=given'),
+                (2, 'list limit 5', 'list takes after='), (2, 'solve side=women', 'side=proposers or'),
+                (2, 'weight', 'by=ranks or by=given'),
                 (2, 'solve list', 'another command'), (3, 'list limit=1 limit=1', 'twice'), (2, 'pairs x', 'no operand'),
                 (4, 'make shape=cycle size=3', 'wants seed='), (2, 'list after=(1)', 'without blanks')):
             self.assertIn(what, ' '.join(self.told('', f'usage {number}', '--words', *words.split())), words)
@@ -199,8 +243,10 @@ class Explain(Case):
         self.assertEqual(self.told(text, 'answer check\nno 18 Blocked\nend', '--names', 'names.csv')[1:],
                          [it.replace('ben', 'Ben').replace('city', 'City Hospital').replace('dan', 'Dan') for it in wanted[1:]])
         both = self.hospitals + 'left ann city\nleft cem north\nright ann city\nend\n'
-        self.assertEqual(self.told(both, 'refused NotStable 16 left blocks ben city')[-1], '  city has 1 of its 2 places free; ben is its choice 3')
-        self.assertIn('its choice 2', self.told(both.replace('left ann', 'left cem'), 'refused NotStable 16 left blocks ann city')[3])
+        self.assertEqual(self.told(both, 'refused NotStable 16 left blocks ben city')[-1],
+                         '  city has 1 of its 2 places free; ben is its choice 3')
+        self.assertIn('its choice 2', self.told(both.replace('left ann', 'left cem'),
+                                                'refused NotStable 16 left blocks ann city')[3])
         head = self.hospitals + 'answer solve side=proposers\npair ann city\n'
         for line, what in (('pair ann west', 'ann doesn\'t list west'), ('pair ann north', 'north doesn\'t list ann'),
                            ('pair ann city', 'ann stands in a pair already, on line 14'), ('pair dan south', 'south has no place')):
@@ -210,15 +256,77 @@ class Explain(Case):
         regret = self.hospitals + 'answer regret\nregret 9\npair ann city\npair ben city\npair cem north\npair eve west\nend\n'
         self.assertEqual(self.told(regret, 'answer check\nno 19 WrongRegret\nend')[-1], 'it is 3: ben is choice 3 of city')
         listed = self.hospitals + 'answer list limit=100\nvector 2,1,2,3,1\nend\n'
-        self.assertEqual(self.told(listed, 'answer check\nno 14 Blocked\nend')[1], 'cem and north would both rather have one another:')
+        self.assertEqual(self.told(listed, 'answer check\nno 14 Blocked\nend')[1],
+                         'cem and north would both rather have one another:')
         first = self.hospitals + 'answer rotations\nfirst ann city/1\nfirst ben north/1\nfirst eve west/1\nend\n'
-        self.assertEqual(self.told(first, 'answer check\nno 17 Blocked\nend')[1], 'ben and city would both rather have one another:')
+        self.assertEqual(self.told(first, 'answer check\nno 17 Blocked\nend')[1],
+                         'ben and city would both rather have one another:')
         self.assertEqual(self.told(text, 'answer check\nyes\nend'), ['the answer is right'])
         self.assertEqual(self.told(text, 'answer regret\nnone\nend')[-1], 'there is no such matching')
         self.assertIn('front of an answer', self.told(text, 'answer pairs')[0])
         self.put('a.txt', '')
         self.assertEqual(self.call('explain', 'raw', 'a.txt')[0], 1)
         self.assertEqual(self.call('explain', '-', '-')[0], 2)
+
+    def test_second(self):
+        """Lines of format 2, under a header of either format."""
+        two = 'stable 1 marriage\n'
+        for text, number, what in ((two + 'order m\n', 2, 'write `stable 2 marriage`'),
+                                   (two + 'master x: a\n', 2, 'write `stable 2 marriage`'),
+                                   (two + 'p m: [x]\n', 2, 'write `stable 2 marriage`'),
+                                   (two + 'weight m a 1 2\n', 2, 'write `stable 2 marriage`'),
+                                   ('stable 1 hospitals\nr a [2]: [x]\n', 2, 'write `stable 2 hospitals`'),
+                                   ('stable 1 roommates\nmaster x: a\n', 2, 'write `stable 2 roommates`'),
+                                   ('stable 2 marriage\nq m: a\n', 2, 'p, r, master, order, weight, force or forbid'),
+                                   ('stable 2 marriage\nweight m a\n', 2, 'one number or two'),
+                                   ('stable 2 roommates\norder m\n', 2, 'have no order'),
+                                   ('stable 2 hospitals\nr a 2: m\n', 2, 'in brackets'),
+                                   ('stable 2 marriage\nr a [2]: m\n', 2, '`stable 2 hospitals` alone'),
+                                   ('stable 2 marriage\nmaster x a\n', 2, 'a master list is `master`, its name')):
+            self.assertIn(what, self.told(text, f'refused BadLine {number}')[-1], text)
+
+    def test_near(self):
+        """Names in other case of letters are found, and none for a number."""
+        two = 'stable 1 marriage\n'
+        self.assertEqual(self.told(two + 'p m: CITY\nr city:\nend\n', 'refused UnknownName 2')[-1], 'is city meant?')
+        self.assertNotIn('meant', self.told(two + 'p m: s101\nr s102:\nend\n', 'refused UnknownName 2')[-1])
+        self.assertNotIn('meant', self.told(two + 'p m: 1011\nr 1012:\nend\n', 'refused UnknownName 2')[-1])
+        self.assertEqual(self.told(two + 'p m: hostal1\nr hospital1:\nend\n', 'refused UnknownName 2')[-1], 'is hospital1 meant?')
+
+    def test_full(self):
+        """With the uncut instance it never says of a pair that was cut that the two don't list each other."""
+        whole = 'stable 1 hospitals\np a: x y\np b: x y\np c: x y\np d: y x\nr x [2]: a b c d\nr y [2]: d c b a\nend\n'
+        # All have their first choice but c, who comes third at x; so the list of x ends behind b.
+        cut = whole.replace('x [2]: a b c d', 'x [2]: a b').replace('p d: y x', 'p d: y')
+        self.put('full.txt', whole)
+        text = cut + 'answer solve side=proposers\npair a x\npair c x\npair d y\nend\n'
+        self.assertEqual(self.told(text, 'answer check\nno 11 NotAMatching\nend')[-1], 'x doesn\'t list c')
+        self.assertEqual(self.told(text, 'answer check\nno 11 NotAMatching\nend', '--full', 'full.txt')[-1],
+                         'c is number 3 of x, where number 1 was the last one admitted')
+        text = cut + 'answer solve side=proposers\npair d x\nend\n'
+        self.assertEqual(self.told(text, 'answer check\nno 10 NotAMatching\nend', '--full', 'full.txt')[-1],
+                         'd is number 4 of x; x is choice 2 of d, who has a better one in each stable matching')
+        self.assertEqual(self.told(cut + 'left a x\nleft b x\nleft c x\nright a x\nend\n', 'refused NotStable 11 left breach c x',
+                                   '--full', 'full.txt')[-1],
+                         'the left lines aren\'t a matching: c is number 3 of x, where number 2 was the last one admitted')
+        self.put('full.txt', 'stable 1 hospitals\np a: x\nr x [2]: a\nend\n')
+        status, _, told = self.call('explain', 'raw', 'a.txt', '--full', 'full.txt')
+        self.assertEqual((status, told), (1, 'explain: full.txt isn\'t the instance before the cut: it hasn\'t b\n'))
+
+    def test_figures(self):
+        """WrongTotal, WrongCut and WrongValue say the right figure; those of the stored answers."""
+        for name in ('weighed.weight_given', 'weighed.weight_ranks', 'forbidden.weight_ranks', 'two_levels.weight_given',
+                     'second_weights.weight_given'):
+            instance, answer = text_of(TOP, 'examples', name.split('.')[0] + '.txt'), text_of(TOP, 'examples', name)
+            for reason, keywords in (('WrongTotal', ('total', 'total2')), ('WrongCut', ('cut', 'cut2')),
+                                     ('WrongValue', ('value', 'value2'))):
+                for number, line in enumerate(answer.split('\n')):
+                    if line.split(' ')[0] in keywords:
+                        wrong = answer.split('\n')
+                        wrong[number] = f'{line.split(" ")[0]} 12345'
+                        got = self.told(instance + '\n'.join(wrong),
+                                        f'answer check\nno {instance.count(chr(10)) + number + 1} {reason}\nend')
+                        self.assertEqual(got[-2:], [VERDICTS[reason], f'it is {line.split(" ")[1]}'], (name, line))
 
     def test_blocking(self):
         """The pair is the first by the definition, with the ranks of both; also for roommates."""
@@ -255,12 +363,14 @@ class Explain(Case):
                 if it not in has and free:
                     other = draw.choice(free)
                     has[it], has[other] = other, it
+
             def gains(own, other):
                 return own not in has or lists[own].index(other) < lists[own].index(has[own])
             pairs = [(p, q) for p in names for q in able[p] if has.get(p) != q and gains(p, q) and gains(q, p)]
             if pairs:
                 found += 1
-                text = '\n'.join(['stable 1 roommates'] + [f'p {it}: {" ".join(row)}' for it, row in lists.items()] + ['end', 'answer solve'])
+                text = '\n'.join(['stable 1 roommates'] + [f'p {it}: {" ".join(row)}' for it, row in lists.items()] +
+                                 ['end', 'answer solve'])
                 couples = sorted({tuple(sorted(it)) for it in has.items()})
                 told = self.told('\n'.join([text] + [f'pair {p} {q}' for p, q in couples] + ['end', '']),
                                  f'answer check\nno {10 + len(couples)} Blocked\nend')

@@ -181,7 +181,7 @@ class Draw(unittest.TestCase):
             answer = '\n'.join(['answer rotations', *(f'first {name} h/{i + 1}' for i, name in enumerate(names)), 'end', ''])
             status, _, fault = draw(text, answer)
             self.assertEqual(status, 1 if refused else 0)
-            self.assertEqual(fault, 'draw: instance.txt:3: more than 1,048,576 entries on the lists of seats (TooManySeats)\n' if refused else '')
+            self.assertRegex(fault, r'\Adraw: instance.txt:3: .* \(TooManySeats\)\n\Z' if refused else r'\A\Z')
 
     def test_limit(self):
         """Twelve pairs of two have 4,096 stable matchings."""

@@ -95,7 +95,8 @@ class Trim(unittest.TestCase):
             text = file.read()
         other = text.replace('r city [2]: cem ann ben dan', ' r\tcity [2] :cem ann  ben dan # two')
         status, cut, told = trim(other.replace('\n', '\r\n'))
-        self.assertEqual((status, told), (0, 'trim: 11 entries on the lists of seats, 9 of them kept, where 1,048,576 is the most\n'))
+        self.assertEqual((status, told),
+                         (0, 'trim: 11 entries on the lists of seats, 9 of them kept, where 1,048,576 is the most\n'))
         wanted = other.replace('\n', '\r\n').replace(' :cem ann  ben dan # two\r', ' : cem ann ben # two')
         self.assertEqual(cut, wanted)
         self.assertEqual(trim(cut)[1], cut)
@@ -117,9 +118,10 @@ class Trim(unittest.TestCase):
             self.assertEqual([program.ask(it, 'solve')[0] for it in (cut_crowd, fitting)], [0, 0])
 
     def test_refused(self):
-        for text, fault in (('stable 1 roommates\np a: b\np b: a\nend\n', 'trim: standard input: roommates have no seats, and nothing'),
-                            ('stable 1 marriage\np a: b\nend\n', 'trim: standard input:2: nobody has this name: b (UnknownName)'),
-                            ('', 'trim: standard input:1: this is no header')):
+        for text, fault in (('stable 1 roommates\np a: b\np b: a\nend\n',
+                             'trim: standard input: roommates have no seats, and nothing'),
+                            ('stable 1 marriage\np a: b\nend\n', 'trim: standard input:2: b: a list, '),
+                            ('', 'trim: standard input:1: the first line with a token is no header')):
             status, cut, told = trim(text)
             self.assertEqual((status, cut), (1, ''))
             self.assertTrue(told.startswith(fault), told)
