@@ -269,7 +269,7 @@ class Result:
 
 
 @dataclass(frozen=True)
-class Matching(MatchingViews, Result):
+class Matching(Result, MatchingViews):
     """A matching of proposers and reviewers, equal to another one of its instance that has the same pairs.
 
     `pairs` has a proposer and a reviewer for each matched proposer, and `ranks` the rank of each proposer's partner, or one
@@ -344,7 +344,7 @@ class Rotation:
 
 
 @dataclass(frozen=True)
-class RotationOrder(OrderViews, Result):
+class RotationOrder(Result, OrderViews):
     """All rotations, in the order of their elimination from the proposers' best on; `first` has each proposer's seat there."""
 
     first: Dict[Name, Seat]

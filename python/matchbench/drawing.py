@@ -3,7 +3,7 @@ from __future__ import annotations
 
 import html
 import itertools
-from typing import Any, Dict, Hashable, Iterable, List, Mapping, NamedTuple, Optional, Sequence, Tuple
+from typing import Any, Dict, Hashable, Iterable, List, Mapping, NamedTuple, Optional, Sequence, Set, Tuple
 
 # What a notebook shows; more is cut, or not drawn.
 MOST_ROWS = 20
@@ -75,7 +75,8 @@ def fitting(lines: Sequence[str]) -> Sequence[str]:
 
 def of_rotation(rotation: Any) -> Box:
     """The box of a rotation, with its moves."""
-    moves = [f'{p}: {old.reviewer} to {new.reviewer}' for p, old, new in rotation.moves()]
+    moves = [f'{p}: {old.reviewer} to {new.reviewer}' if old.reviewer != new.reviewer else
+             f'{p}: seat {old.number} to seat {new.number} of {new.reviewer}' for p, old, new in rotation.moves()]
     return Box([f'rotation {rotation.number}', *fitting(moves)], '\n'.join(moves), PLAIN)
 
 
@@ -87,10 +88,13 @@ def of_matching(matching: Any, taken: Iterable[int], colour: str) -> Box:
 
 
 def picture(boxes: Mapping[Any, Box], edges: Sequence[Tuple[Any, Any, str]]) -> Optional[str]:
-    """A picture of boxes in layers, each below all from which an edge leads to it; None where there are too many, or a circle."""
+    """A picture of boxes in layers, each below all from which an edge leads to it, without edges that follow from others. None where
+    there are too many boxes, or a circle.
+    """
     layers = layers_of(list(boxes), [(a, b) for a, b, _ in edges]) if len(boxes) <= MOST_BOXES else None
     if layers is None:
         return None
+    edges = direct(edges)
     rows: List[List[Any]] = [[] for _ in range(max(layers.values(), default=-1) + 1)]
     for it, layer in layers.items():
         rows[layer].append(it)
@@ -116,6 +120,24 @@ def layers_of(nodes: Sequence[Any], edges: Sequence[Tuple[Any, Any]]) -> Optiona
         for a, b in late:
             layers[b] = max(layers[b], layers[a] + 1)
     return None if any(layers[b] <= layers[a] for a, b in edges) else layers
+
+
+def direct(edges: Sequence[Tuple[Any, Any, str]]) -> List[Tuple[Any, Any, str]]:
+    """The edges that don't follow from others."""
+    after: Dict[Any, Set[Any]] = {}
+    for a, b, _ in edges:
+        after.setdefault(a, set()).add(b)
+
+    def reached(node: Any) -> Set[Any]:
+        found, open_ones = {node}, [node]
+        while open_ones:
+            more = after.get(open_ones.pop(), set()) - found
+            found |= more
+            open_ones += more
+        return found
+
+    beyond = {b: reached(b) - {b} for _, b, _ in edges}
+    return [(a, b, label) for a, b, label in edges if not any(b in beyond[other] for other in after[a])]
 
 
 def in_order(rows: List[List[Any]], links: Sequence[Tuple[Any, Any]]) -> None:

@@ -12,6 +12,9 @@ _networkx: Any = importlib.import_module('networkx')
 class Graph(_networkx.DiGraph):  # type: ignore[misc]
     """A directed graph that draws itself in notebooks: of rotations or of stable matchings, or one that was made from these."""
 
+    def __repr__(self) -> str:
+        return str(self)
+
     def _repr_svg_(self) -> Optional[str]:
         boxes = {}
         for node, has in self.nodes(data=True):
