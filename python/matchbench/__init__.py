@@ -51,6 +51,7 @@ MOST_LISTED = 1_000_000
 MOST_IN_VECTOR = 4_294_967_295
 MOST_CAPACITY = 4_096
 MOST_WEIGHT = 1_000_000_000
+WANTED = '{} and {} would both rather have one another'
 
 # What each reason of a refusal says.
 REASONS = {
@@ -239,12 +240,11 @@ def _released(folder: str) -> str:
 
 def _version() -> str:
     """The version of the repository in which this file is, else of the installed module."""
-    cited = os.path.join(os.path.dirname(os.path.realpath(__file__)), '..', '..', 'CITATION.cff')
-    if os.path.isfile(cited):
-        with open(cited, encoding='utf-8') as file:
-            for found in re.findall(r'(?ms)^title: "matchbench.*^version: "([^"]+)"', file.read()):
-                return str(found)
-    metadata = importlib.import_module('importlib.metadata')
+    try:
+        with open(os.path.join(os.path.dirname(os.path.realpath(__file__)), '..', '..', 'CITATION.cff'), encoding='utf-8') as file:
+            return str(re.findall(r'(?ms)^title: "matchbench.*^version: "([^"]+)"', file.read())[0])
+    except (OSError, IndexError):
+        metadata = importlib.import_module('importlib.metadata')
     try:
         return str(metadata.version('matchbench'))
     except metadata.PackageNotFoundError:
@@ -256,7 +256,6 @@ __version__ = _version()
 
 class Seat(NamedTuple):
     """A seat of a reviewer, and its number there. In a marriage each reviewer has the one seat 1."""
-
     reviewer: Name
     number: int
 
@@ -264,7 +263,6 @@ class Seat(NamedTuple):
 @dataclass(frozen=True)
 class Result:
     """What a command answered, and its text."""
-
     text: str = field(repr=False, compare=False)
 
 
@@ -275,7 +273,6 @@ class Matching(Result, MatchingViews):
     `pairs` has a proposer and a reviewer for each matched proposer, and `ranks` the rank of each proposer's partner, or one
     more than its list is long where it is alone; both are in the order of the instance. The text of one of `list` is its line.
     """
-
     instance: Instance = field(repr=False, compare=False)
     pairs: Tuple[Pair, ...]
     ranks: Tuple[int, ...]
@@ -319,7 +316,6 @@ class Reduced(Result):
     """The reduced lists: what is left of each proposer's list, a seat at a time, and the list of each seat. `first` and `last` have
     the seat of each matched proposer in the proposers' best stable matching and in the reviewers' best.
     """
-
     first: Dict[Name, Seat]
     last: Dict[Name, Seat]
     proposers: Dict[Name, Tuple[Seat, ...]]
@@ -332,7 +328,6 @@ class Rotation:
     of the first. `needs` are the numbers of rotations that have to be eliminated before, rising; of those that follow from the
     needs of these some may be left out.
     """
-
     number: int
     pairs: Tuple[Tuple[Name, Seat], ...]
     needs: Tuple[int, ...]
@@ -346,7 +341,6 @@ class Rotation:
 @dataclass(frozen=True)
 class RotationOrder(Result, OrderViews):
     """All rotations, in the order of their elimination from the proposers' best on; `first` has each proposer's seat there."""
-
     first: Dict[Name, Seat]
     rotations: Tuple[Rotation, ...]
 
@@ -358,7 +352,6 @@ class RotationOrder(Result, OrderViews):
 @dataclass(frozen=True)
 class StablePairs(Result):
     """The pairs that are together in some stable matching, by proposer and along its list, and those that are so in every one."""
-
     pairs: Tuple[Pair, ...]
     fixed: Tuple[Pair, ...]
 
@@ -366,14 +359,12 @@ class StablePairs(Result):
 @dataclass(frozen=True)
 class LeastRegret(Result):
     """An allowed stable matching of the least regret, and this regret: the greatest rank in one of its pairs, 0 without one."""
-
     regret: int
     matching: Matching
 
 
 class FlowEdge(NamedTuple):
     """What flows along an edge of the net, between the source 'S', the sink 'T' and rotations by their numbers."""
-
     source: Union[str, int]
     target: Union[str, int]
     amount: int
@@ -384,7 +375,6 @@ class Level(Result):
     """One level of weights: the weight of the matching, what each rotation adds, a flow in the level's net, what leaves its source,
     and the cut of the taken rotations.
     """
-
     total: int
     gains: Tuple[int, ...]
     flow: Tuple[FlowEdge, ...]
@@ -399,7 +389,6 @@ class Lightest(Level):
     `first` and `rotations` are as in a `RotationOrder`, and `taken` has the numbers of the rotations that the flow still reaches.
     `second` is the level of second weights, None where no pair has one.
     """
-
     matching: Matching
     first: Dict[Name, Seat]
     rotations: Tuple[Rotation, ...]
@@ -410,7 +399,6 @@ class Lightest(Level):
 @dataclass(frozen=True)
 class Median(Result):
     """The median of the allowed stable matchings, and how many these are."""
-
     listed: int
     matching: Matching
 
@@ -420,7 +408,6 @@ class Route(Result):
     """A shortest way from one stable matching to another: the numbers of the rotations that are taken back, and then of those that
     are eliminated, each in its order. `first` and `rotations` are as in a `RotationOrder`.
     """
-
     back: Tuple[int, ...]
     forth: Tuple[int, ...]
     first: Dict[Name, Seat]
@@ -430,7 +417,6 @@ class Route(Result):
 @dataclass(frozen=True)
 class Rest(Result):
     """Who of some roommates is left out, the first member of each odd party of three or more, and the couples of the others."""
-
     out: Tuple[Name, ...]
     matching: Matching
 
@@ -442,7 +428,6 @@ class Survey(Result):
     has its first choice, its second, its third and a later one, and how often one is alone. `last` is None where these were all,
     and else the ranks of the last of them.
     """
-
     listed: int
     rank_sum: int
     least_regret: int
@@ -463,7 +448,6 @@ class Verdict(Result):
     counted from the first of the instance, and `line_text` what stands there. `blocking` is a pair that would both rather
     have one another, where that is the reason.
     """
-
     right: bool
     sentence: str
     reason: Optional[str] = None
@@ -485,7 +469,13 @@ class _Side:
     def __init__(self, word: str, given: Lists, capacities: Optional[Capacities] = None,
                  names: Optional[Sequence[str]] = None) -> None:
         self.word = word
-        self.lists = {name: tuple(row) for name, row in _by_agent(word, given).items() if _is_row(name, row)}
+        self.lists: Dict[Name, Tuple[Name, ...]] = {}
+        for name, row in _by_agent(word, given).items():
+            if name is None:
+                raise TypeError('None is no name: it stands for being alone')
+            if isinstance(row, (str, bytes, set, frozenset, Mapping)):
+                raise TypeError(f'the list of {name!r} is {row!r}, and not a list of names, best first')
+            self.lists[name] = tuple(row)
         if names is None:
             texts = list(map(str, self.lists))
             counts = Counter(texts)
@@ -511,10 +501,10 @@ class _Side:
     def lines(self, keyword: str, other: _Side, with_capacities: bool) -> Iterator[str]:
         """The lines of the agents."""
         for name, row in self.lists.items():
-            names = [other.name(it, f'the list of {name!r}') for it in row]
+            where = f'the list of {name!r}'
+            names = [other.name(it, where) for it in row]
             if len(set(names)) < len(names):
-                twice = next(it for place, it in enumerate(row) if it in row[:place])
-                raise ValueError(f'{twice!r} stands twice on the list of {name!r}')
+                raise ValueError(f'{next(it for place, it in enumerate(row) if it in row[:place])!r} stands twice on {where}')
             shown = f' [{self.capacities[name]}]' if with_capacities else ''
             yield f'{keyword} {self.names[name]}{shown}: {" ".join(names)}'.rstrip()
 
@@ -834,7 +824,7 @@ class Instance(InstanceViews):
         if reason == 'Blocked':
             given = [[*self._pairs_at(_ranks(last[1]))]] if last[0] == 'vector' else [*groups.values()] or [[]]
             for blocking in filter(None, map(self._blocking, given)):
-                return _wanted(blocking), blocking
+                return WANTED.format(*blocking), blocking
         return sentence, None
 
     def _why(self, pairs: Sequence[Pair], pair: Pair) -> str:
@@ -883,7 +873,7 @@ class Instance(InstanceViews):
             if cause == 'breach':
                 before = fault.line - self._front().count('\n') - 1 - (len(given['left']) if which == 'right' else 0)
                 why = self._why(given[which][:before], pair)
-            why = why or _wanted(pair)
+            why = why or WANTED.format(*pair)
             raise NotStable(fault.line, fault.line_text, fault.text, which, cause, pair, why) from None
 
     def _listing(self, after: List[str], left: int) -> Iterator[Matching]:
@@ -1038,15 +1028,6 @@ def _by_agent(what: str, given: Any) -> Mapping[Any, Any]:
     return given if isinstance(given, Mapping) else dict(enumerate(given))
 
 
-def _is_row(name: Name, row: Any) -> bool:
-    """True; raises TypeError where an agent has no name or no list."""
-    if name is None:
-        raise TypeError('None is no name: it stands for being alone')
-    if isinstance(row, (str, bytes, set, frozenset, Mapping)):
-        raise TypeError(f'the list of {name!r} is {row!r}, and not a list of names, best first')
-    return True
-
-
 def _once(items: Iterable[Tuple[Any, Any]], word: str) -> Dict[Any, Any]:
     """The items of a member of JSON by their keys, of which none may stand twice."""
     found: Dict[Any, Any] = {}
@@ -1055,11 +1036,6 @@ def _once(items: Iterable[Tuple[Any, Any]], word: str) -> Dict[Any, Any]:
             raise ValueError(f'{key!r} stands twice in the {word}')
         found[key] = it
     return found
-
-
-def _wanted(pair: Pair) -> str:
-    """Why a matching isn't stable that leaves a pair apart."""
-    return f'{pair[0]} and {pair[1]} would both rather have one another'
 
 
 def _list_of(words: List[str]) -> List[str]:
@@ -1072,8 +1048,7 @@ def _ranks(shown: str) -> Tuple[int, ...]:
     return () if shown == '-' else tuple(map(int, shown.split(',')))
 
 
-# The forms of instances in JSON: a dict has members, of which those with ? may be missing, a list has items of one form, a tuple has
-# lengths.
+# The forms of instances in JSON: a dict has members, those with ? perhaps; a list has items of one form; a tuple says how many items.
 _AGENT: Dict[str, Any] = {'name': None, 'list': [None]}
 _PAIRS: Dict[str, Any] = {'kind': None, '?weights': [(3, 4)], '?forced': [(2,)], '?forbidden': [(2,)], '?order': [None]}
 _FORM = {'marriage': {**_PAIRS, 'proposers': [_AGENT], 'reviewers': [_AGENT]},

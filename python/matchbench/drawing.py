@@ -88,8 +88,8 @@ def of_matching(matching: Any, taken: Iterable[int], colour: str) -> Box:
 
 
 def picture(boxes: Mapping[Any, Box], edges: Sequence[Tuple[Any, Any, str]]) -> Optional[str]:
-    """A picture of boxes in layers, each below all from which an edge leads to it, without edges that follow from others. None where
-    there are too many boxes, or a circle.
+    """A picture of boxes in layers, each below all from which an edge leads to it, without edges that follow from others. None
+    where there are too many boxes, or a circle.
     """
     layers = layers_of(list(boxes), [(a, b) for a, b, _ in edges]) if len(boxes) <= MOST_BOXES else None
     if layers is None:

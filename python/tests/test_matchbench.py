@@ -104,12 +104,12 @@ def market(lists, rows, capacities):
 
 
 class Small(unittest.TestCase):
-    """Two sides, 220 instances."""
+    """Two sides, 300 instances."""
 
     @asks
     def test_all_matchings(self):
         several = conditioned = 0
-        for seed in range(220):
+        for seed in range(300):
             with self.subTest(seed=seed):
                 lists, rows, capacities = drawn(seed)
                 tried = market(lists, rows, capacities)
@@ -256,6 +256,58 @@ class Small(unittest.TestCase):
                 if told:
                     p, r, held = told.groups()
                     self.assertEqual((stable[ranks][p], has[p]), (r, held))
+
+    @asks
+    def test_sentences(self):
+        """The first pair that can't be held, and why."""
+        seen = set()
+        for seed in range(300):
+            lists, rows, capacities = drawn(seed)
+            instance = Instance.marriage(lists, rows) if capacities is None else Instance.hospitals(lists, rows, capacities)
+            draw = random.Random(-seed)
+            given = {p: draw.choice([*rows, *lists[p], None]) for p in lists}
+            told, held = None, {it: [] for it in rows}
+            for p, r in given.items():
+                if r is not None and not told:
+                    if r not in lists[p]:
+                        told = f"{p} can't be with {r}, since {p} doesn't list {r}"
+                    elif p not in rows[r]:
+                        told = f"{p} can't be with {r}, since {r} doesn't list {p}"
+                    elif len(held[r]) >= instance.capacities[r]:
+                        full = 'full ' if len(held[r]) > 1 else ''
+                        told = f"{p} can't be with {r}, since {r} is {full}with {' and '.join(held[r])}" if held[r] else \
+                            f"{p} can't be with {r}, since {r} has no place"
+                    held[r].append(p)
+            for claim in ('stable', 'proposers', 'reviewers'):
+                verdict = instance.check_matching(given, claim)
+                self.assertEqual(verdict.reason == 'NotAMatching', told is not None)
+                if told:
+                    self.assertEqual((verdict.sentence, verdict.blocking), (told, None), seed)
+            if told:
+                seen.add(re.sub('.*(doesn\'t list|is with|full|no place).*', r'\1', told))
+                with self.assertRaises(NotStable) as caught:
+                    instance.meet(instance.solve(), given)
+                self.assertEqual(caught.exception.sentence, 'the right matching isn\'t stable: ' + told)
+        self.assertEqual(seen, {'doesn\'t list', 'is with', 'full', 'no place'})
+
+    @asks
+    def test_numbers(self):
+        """Lists of lists, and names that are numbers and tuples."""
+        for seed in range(30):
+            instance = Instance.make('random', 8, seed)
+            p, r = list(instance.proposers), list(instance.reviewers)
+            numbered = Instance.marriage([[r.index(it) for it in row] for row in instance.proposers.values()],
+                                         [[p.index(it) for it in row] for row in instance.reviewers.values()])
+            self.assertEqual([it.ranks for it in numbered.list()], [it.ranks for it in instance.list()])
+            self.assertEqual(numbered.solve().partners(), {p.index(a): r.index(b) for a, b in instance.solve().pairs})
+        named = Instance.marriage({1: [('x', 1), 1.5], '1': [('x', 1)], (1, 2): []}, {('x', 1): ['1', 1], 1.5: [1]})
+        self.assertEqual(list(named.proposer_names.values()), ['p1', '1', '1_2'])
+        self.assertEqual(list(named.reviewer_names.values()), ['x_1', '1.5'])
+        self.assertEqual(named.solve().partners(), {1: 1.5, '1': ('x', 1), (1, 2): None})
+        self.assertTrue(named.check_matching(named.solve(), 'proposers'))
+        self.assertEqual(named.check_matching({1: ('x', 1)}).blocking, ('1', ('x', 1)))
+        beds = Instance.hospitals([[0], [0], [0]], [[2, 1, 0]], [2], weights={(2, 0): 5}, forced=[(1, 0)])
+        self.assertEqual((beds.solve().places(), beds.weight('given').total), ({0: (1, 2)}, 5))
 
 
 class Rooms(unittest.TestCase):
@@ -427,6 +479,32 @@ class Examples(unittest.TestCase):
         with self.assertRaises(Refused) as refused:
             instance.check(next(instance.list()))
         self.assertEqual(refused.exception.reason, 'BadAnswer')
+
+    @asks
+    def test_answers(self):
+        """The stored inputs of `check`: where a pair is at fault, it is named, and who blocks."""
+        named = {'blocked': ('m2 and b would both rather have one another', ('m2', 'b')),
+                 'not_a_matching': ('m2 can\'t be with a, since a is with m1', None),
+                 'not_best': ('the matching is stable, but in the proposers\' best m1 is with a, and not with b', None)}
+        paths = glob.glob(os.path.join(TOP, 'examples', 'verdicts', '*.txt'))
+        self.assertEqual(len(paths), len(matchbench.VERDICTS))
+        for path in paths:
+            name = os.path.basename(path)[:-len('.txt')]
+            text = example(os.path.join('verdicts', name + '.txt'))
+            at = re.search(r'^end.*\n', text, re.M).end()
+            verdict = Instance.from_text(text[:at]).check(text[at:])
+            self.assertEqual(verdict.text, example(os.path.join('verdicts', name + '.check')))
+            told = named.get(name, (matchbench.VERDICTS[verdict.reason], None))
+            self.assertEqual((verdict.sentence, verdict.blocking), told, name)
+            self.assertEqual(verdict.line_text, text.split('\n')[verdict.line - 1])
+        two = Instance.marriage(*TWO)
+        for answer, pair in (('answer list limit=1\nvector 1,3\nend\n', ('m2', 'b')),
+                             ('answer regret\nregret 0\nend\n', ('m1', 'a')),
+                             ('answer meet\nleft m1 a\nleft m2 b\nright m1 b\npair m1 a\npair m2 b\nend\n', ('m1', 'a')),
+                             ('answer rotations\nfirst m1 a\nend\n', ('m2', 'b')),
+                             ('answer reduced\nfirst m1 a\nfirst m2 b\nlast m2 a\nend\n', ('m1', 'b'))):
+            verdict = two.check(answer)
+            self.assertEqual((verdict.reason, verdict.blocking), ('Blocked', pair), answer)
 
     @asks
     def test_make(self):
