@@ -1048,7 +1048,7 @@ def _ranks(shown: str) -> Tuple[int, ...]:
     return () if shown == '-' else tuple(map(int, shown.split(',')))
 
 
-# The forms of instances in JSON: a dict has members, those with ? perhaps; a list has items of one form; a tuple says how many items.
+# The forms of instances in JSON: a dict has members, some with ? only perhaps; a list has items of one form; a tuple has lengths.
 _AGENT: Dict[str, Any] = {'name': None, 'list': [None]}
 _PAIRS: Dict[str, Any] = {'kind': None, '?weights': [(3, 4)], '?forced': [(2,)], '?forbidden': [(2,)], '?order': [None]}
 _FORM = {'marriage': {**_PAIRS, 'proposers': [_AGENT], 'reviewers': [_AGENT]},
