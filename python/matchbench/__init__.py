@@ -30,10 +30,10 @@ from types import MappingProxyType
 from typing import Any, Dict, Iterable, Iterator, List, Mapping, NamedTuple, Optional, Sequence, Tuple, Union
 
 try:
-    from .views import InstanceViews, MatchingViews, OrderViews
+    from .views import InstanceViews, LightestViews, MatchingViews, OrderViews
 except ImportError:
     # This file was copied alone.
-    InstanceViews = MatchingViews = OrderViews = object  # type: ignore[assignment, misc]
+    InstanceViews = LightestViews = MatchingViews = OrderViews = object  # type: ignore[assignment, misc]
 
 __all__ = ['Couples', 'Failed', 'FlowEdge', 'Instance', 'LeastRegret', 'Level', 'Lightest', 'Matching', 'MatchbenchError',
            'Median', 'NoMatching', 'NotStable', 'ProgramMissing', 'Reduced', 'Refused', 'Rest', 'Result', 'Rotation',
@@ -383,7 +383,7 @@ class Level(Result):
 
 
 @dataclass(frozen=True)
-class Lightest(Level):
+class Lightest(Level, LightestViews):
     """The lightest allowed stable matching, with what shows that none is lighter: each cut is equal to its value.
 
     `first` and `rotations` are as in a `RotationOrder`, and `taken` has the numbers of the rotations that the flow still reaches.
@@ -535,7 +535,8 @@ class Instance(InstanceViews):
         self.capacities = MappingProxyType(sides[-1].capacities)
         self.proposer_names, self.reviewer_names = MappingProxyType(sides[0].names), MappingProxyType(sides[-1].names)
         self._weights = {pair: _weight(pair, it) for pair, it in (weights or {}).items()}
-        self._forced, self._forbidden, self._order = list(forced), list(forbidden), None if order is None else list(order)
+        self._forced, self._forbidden = [(p, r) for p, r in forced], [(p, r) for p, r in forbidden]
+        self._order = None if order is None else list(order)
         self._text = '\n'.join([*self._lines_of_text(), 'end', '']) if text is None else text
 
     @classmethod

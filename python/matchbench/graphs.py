@@ -2,9 +2,12 @@
 from __future__ import annotations
 
 import importlib
-from typing import Any, Dict, FrozenSet, List, Optional
+from typing import Any, Dict, FrozenSet, List, Optional, Tuple, Union
 
 from . import drawing
+
+# The room of each edge of a net, None where it has no bound.
+Rooms = Dict[Tuple[Union[str, int], Union[str, int]], Optional[int]]
 
 _networkx: Any = importlib.import_module('networkx')
 
@@ -59,4 +62,51 @@ def lattice(instance: Any, most: int) -> Graph:
         sums = {'proposer_sum': sum(it.ranks), 'reviewer_sum': sum(rank or 0 for rank in it.reviewer_ranks)}
         graph.add_node(it, ranks=it.ranks, set=closed, **sums)
     graph.add_edges_from((matchings[a], matchings[b], {'rotation': number}) for a, b, number in edges)
+    return graph
+
+
+def nets(light: Any) -> List[Any]:
+    """The net of each level of a lightest matching: docs/FORMATS.md says which edges they have."""
+    instance = light.matching.instance
+    rooms = rooms_of(light.gains)
+    rooms.update({(it.number, needed): None for it in light.rotations for needed in it.needs})
+    moves = [(it.number, p, old.reviewer, new.reviewer) for it in light.rotations for p, old, new in it.moves()]
+    for pairs, is_forced in ((instance._forced, True), (instance._forbidden, False)):
+        for p, r in pairs:
+            brings = [number for number, one, old, new in moves if one == p and old != r == new]
+            takes = [number for number, one, old, new in moves if one == p and old == r != new]
+            if is_forced:
+                rooms.update({('S', it): None for it in brings})
+                rooms.update({(it, 'T'): None for it in takes})
+            elif brings or takes:
+                rooms[(brings or ['S'])[0], (takes or ['T'])[0]] = None
+    if light.second is None:
+        return [net(rooms, light)]
+    # The second net has the changes that the first flow leaves open.
+    second, flow = rooms_of(light.second.gains), {(it.source, it.target): it.amount for it in light.flow}
+    for (tail, head), room in rooms.items():
+        amount = flow.get((tail, head), 0)
+        if room is None or amount < room:
+            second[tail, head] = None
+        if amount and tail != 'S' and head != 'T':
+            second[head, tail] = None
+    return [net(rooms, light), net(second, light.second)]
+
+
+def rooms_of(gains: Any) -> Rooms:
+    """The edges of the gains."""
+    rooms: Rooms = {}
+    for it, gain in enumerate(gains, 1):
+        if gain:
+            rooms['S' if gain < 0 else it, it if gain < 0 else 'T'] = abs(gain)
+    return rooms
+
+
+def net(rooms: Rooms, level: Any) -> Any:
+    """The net of a level."""
+    graph = _networkx.DiGraph()
+    graph.add_nodes_from(['S', *range(1, len(level.gains) + 1), 'T'])
+    flow = {(it.source, it.target): it.amount for it in level.flow}
+    for ends, room in rooms.items():
+        graph.add_edge(*ends, flow=flow.get(ends, 0), **({} if room is None else {'capacity': room}))
     return graph

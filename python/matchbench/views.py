@@ -28,6 +28,17 @@ class MatchingViews:
         return drawing.table(drawing.columns_of_matching(self))
 
 
+class LightestViews:
+    """Of a lightest matching."""
+
+    def nets(self) -> Any:
+        """The net of each level, one or two, as a `networkx.DiGraph`: an edge has its `flow`, and where it has a bound a `capacity`.
+
+        `networkx.maximum_flow_value(net, 'S', 'T')` is the value of the level. Raises ImportError where networkx is missing.
+        """
+        return importlib.import_module('.graphs', __package__).nets(self)
+
+
 class OrderViews:
     """Of the order of rotations."""
 

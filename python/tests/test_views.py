@@ -2,6 +2,7 @@
 import contextlib
 import io
 import os
+import random
 import re
 import shutil
 import subprocess
@@ -17,7 +18,7 @@ TOP = os.path.join(HERE, '..', '..')
 sys.path.insert(0, os.path.join(TOP, 'python'))
 
 import matchbench  # noqa: E402
-from matchbench import Instance, ProgramMissing, drawing, tables  # noqa: E402
+from matchbench import Instance, NoMatching, ProgramMissing, drawing, tables  # noqa: E402
 
 try:
     matchbench.find_program()
@@ -98,6 +99,40 @@ class Graphs(unittest.TestCase):
         with self.assertRaises(ValueError) as caught:
             instance.lattice(most=31)
         self.assertEqual(str(caught.exception), 'there are more than 31 stable matchings; lattice(most=..) takes more')
+
+    def test_nets(self):
+        """Their flows are greatest ones, and their cuts are those of the taken rotations."""
+        seen = set()
+        for seed in range(60):
+            draw = random.Random(seed)
+            made = Instance.make('hospitals' if seed % 4 == 3 else 'random', 9, seed)
+            pairs = [(p, r) for p in made.proposers for r in made.reviewers]
+            weights = {it: (draw.randint(-1, 1), draw.randint(-9, 9)) if seed % 2 else draw.randint(-9, 9) for it in pairs}
+            more = {'weights': weights, 'forbidden': draw.sample(pairs, 3) if seed % 3 == 1 else []}
+            if seed % 3 == 2:
+                more['forced'] = [draw.choice(made.solve(draw.choice(('proposers', 'reviewers'))).pairs)]
+            instance = Instance.marriage(made.proposers, made.reviewers, **more) if made.kind == 'marriage' else \
+                Instance.hospitals(made.proposers, made.reviewers, made.capacities, **more)
+            for by in ('ranks', 'given'):
+                try:
+                    light = instance.weight(by)
+                except NoMatching:
+                    continue
+                levels = [light, light.second] if light.second else [light]
+                nets = light.nets()
+                self.assertEqual(len(nets), len(levels))
+                for net, level in zip(nets, levels):
+                    self.assertEqual(self.networkx.maximum_flow_value(net, 'S', 'T'), level.value)
+                    flows = {(a, b): it['flow'] for a, b, it in net.edges(data=True) if it['flow']}
+                    self.assertEqual(flows, {(it.source, it.target): it.amount for it in level.flow})
+                    for it in range(1, len(level.gains) + 1):
+                        self.assertEqual(sum(net[a][it]['flow'] for a in net.pred[it]),
+                                         sum(net[it][b]['flow'] for b in net.succ[it]))
+                    taken = {'S', *light.taken}
+                    out = [it for a, b, it in net.edges(data=True) if a in taken and b not in taken]
+                    self.assertEqual(sum(it['capacity'] for it in out), level.cut)
+                    seen.add((len(levels), level.value > 0, bool(more.get('forced')), bool(more['forbidden'])))
+        self.assertGreater(len(seen), 8)
 
     def test_pictures(self):
         graph = example('five_rotations.txt').lattice()
