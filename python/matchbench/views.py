@@ -32,9 +32,8 @@ class LightestViews:
     """Of a lightest matching."""
 
     def nets(self) -> Any:
-        """The net of each level, one or two, as a `networkx.DiGraph`: an edge has its `flow`, and where it has a bound a `capacity`.
-
-        `networkx.maximum_flow_value(net, 'S', 'T')` is the value of the level. Raises ImportError where networkx is missing.
+        """The net of each level, one or two, as a `networkx.DiGraph`, whose edges have a `flow`, and a `capacity` where they have a
+        bound. `networkx.maximum_flow_value(net, 'S', 'T')` is the level's value. Raises ImportError where networkx is missing.
         """
         return importlib.import_module('.graphs', __package__).nets(self)
 
