@@ -12,6 +12,7 @@ Names are any hashable values but None. Ranks and the numbers of seats, rotation
 """
 from __future__ import annotations
 
+import contextlib
 import difflib
 import functools
 import hashlib
@@ -129,11 +130,9 @@ class ProgramMissing(MatchbenchError):
 
 
 class Refused(MatchbenchError):
-    """The program doesn't take the input.
-
-    `reason` is the name that docs/FORMATS.md has for it, and `sentence` explains it. `line` is the number of the line in
-    the text, 0 for the text as a whole, and `line_text` what stands there, by the names of the text. For `check`, `meet`,
-    `join` and `route` lines are counted on through what stands behind the instance. `text` is the program's own line.
+    """The program doesn't take the input: `reason` is the name that docs/FORMATS.md has for it, and `sentence` explains it. `line`
+    is counted on through what stands behind the instance, and 0 for the text as a whole; `line_text` is what stands there, by the
+    names of the text, and `text` the program's own line.
     """
 
     def __init__(self, reason: str, line: int, line_text: str, text: str) -> None:
@@ -148,10 +147,8 @@ class Refused(MatchbenchError):
 
 
 class NotStable(Refused):
-    """One of two matchings given to `meet`, `join` or `route` isn't stable.
-
-    `which` is 'left' or 'right'. `cause` is 'breach' where `pair` can't be held, since it isn't acceptable or one of the two has
-    no place left, and 'blocks' where the two would both rather have one another. `why` says it in words.
+    """One of two given matchings isn't stable: `which` is 'left' or 'right'. The `cause` is 'breach' where `pair` can't be held,
+    since it isn't acceptable or one of the two has no place left, and 'blocks' where the two would both rather have one another.
     """
 
     def __init__(self, line: int, line_text: str, text: str, which: str, cause: str, pair: Pair, why: str) -> None:
@@ -162,10 +159,9 @@ class NotStable(Refused):
 
 
 class NoMatching(MatchbenchError):
-    """There is no such matching, and `text` is the program's answer that says so.
-
-    Forced and forbidden pairs allow none; or roommates have none, and `parties` are those of a stable partition, each in the
-    order of successors. One of them has an odd number of three or more members, which shows it.
+    """There is no such matching, and `text` is the program's answer that says so: forced and forbidden pairs allow none, or
+    roommates have none. Then `parties` are those of a stable partition, each in the order of successors, and an odd one of three or
+    more shows it.
     """
 
     def __init__(self, text: str, parties: Tuple[Tuple[Name, ...], ...] = ()) -> None:
@@ -268,10 +264,8 @@ class Result:
 
 @dataclass(frozen=True)
 class Matching(Result, MatchingViews):
-    """A matching of proposers and reviewers, equal to another one of its instance that has the same pairs.
-
-    `pairs` has a proposer and a reviewer for each matched proposer, and `ranks` the rank of each proposer's partner, or one
-    more than its list is long where it is alone; both are in the order of the instance. The text of one of `list` is its line.
+    """A matching: `pairs` has a proposer and a reviewer for each matched proposer, and `ranks` the rank of each proposer's partner,
+    or one more than its list is long where it is alone; both are in the order of the instance. That of `list` has its line as text.
     """
     instance: Instance = field(repr=False, compare=False)
     pairs: Tuple[Pair, ...]
@@ -325,8 +319,7 @@ class Reduced(Result):
 @dataclass(frozen=True)
 class Rotation:
     """A rotation: `pairs` has each of its proposers with the seat that it leaves for that of the next pair, the last for that
-    of the first. `needs` are the numbers of rotations that have to be eliminated before, rising; of those that follow from the
-    needs of these some may be left out.
+    of the first. `needs` are rotations that have to be eliminated before; those that follow from these may be left out.
     """
     number: int
     pairs: Tuple[Tuple[Name, Seat], ...]
@@ -442,11 +435,9 @@ class Survey(Result):
 
 @dataclass(frozen=True)
 class Verdict(Result):
-    """Whether an answer, or a claim on a matching, is right. A verdict is true where it is.
-
-    Else `reason` is the first reason for which it isn't, `sentence` explains it, and `line` is the line at which it shows,
-    counted from the first of the instance, and `line_text` what stands there. `blocking` is a pair that would both rather
-    have one another, where that is the reason.
+    """Whether an answer, or a claim on a matching, is right: a verdict is true where it is. Else `reason` is the first one for
+    which it isn't, `sentence` explains it, and `line` is where it shows, counted from the first of the instance. `blocking` is a
+    pair that would both rather have one another, where that is the reason.
     """
     right: bool
     sentence: str
@@ -519,9 +510,9 @@ class Instance(InstanceViews):
     `capacities` say how many each takes, and the names that they have in the text; of roommates both sides are the persons.
 
     `marriage`, `hospitals`, `roommates`, `from_text`, `from_json`, `from_tables` and `make` make one, which doesn't change. Two are
-    equal if they have the same parts in the same order. The other methods start the program, unless they say otherwise, and raise
-    ProgramMissing, Failed, and Refused where it doesn't take the instance: lists of more than 524,288 entries, for example. A call
-    takes some two milliseconds, and on the largest instances a few tenths of a second; reading the results may take as long again.
+    equal if they have the same parts in the same order. Most methods start the program, and raise ProgramMissing, Failed, and
+    Refused where it doesn't take the instance: lists of more than 524,288 entries, for example. A call takes some two milliseconds,
+    and on the largest instances a few tenths of a second; reading the results may take as long again.
 
     `list`, `survey`, `regret`, `weight` and `median` speak of the allowed stable matchings, which have each forced pair and no
     forbidden one, the other methods of all. Roommates have `solve`, `list`, `rest`, `check` and `check_matching` alone.
@@ -669,10 +660,8 @@ class Instance(InstanceViews):
         return _ask(self._text, 'export')
 
     def solve(self, side: Optional[str] = None) -> Matching:
-        """The stable matching in which every proposer has the best partner that it has in any.
-
-        With the side 'reviewers' it is the one in which every proposer has the worst, which is the reviewers' best. Of roommates,
-        which have no side, any stable matching, as `Couples`. Raises NoMatching where roommates have none.
+        """The stable matching in which every proposer has the best partner that it has in any; with the side 'reviewers' the
+        reviewers' best, in which it has the worst. Of roommates, any stable matching, or NoMatching is raised.
         """
         _one_of('side', side, (None, 'proposers', 'reviewers'))
         return self._matching(self._answer('solve', *([f'side={side}'] if side else [])))
@@ -699,11 +688,10 @@ class Instance(InstanceViews):
 
     def list(self, after: Union[None, Matching, Sequence[int]] = None, limit: Optional[int] = None) -> Iterator[Matching]:
         """A generator of the allowed stable matchings, in the order of their ranks: the lower number first where two first
-        differ. Of roommates it is all stable matchings, as `Couples`.
+        differ. Those behind `after`, a matching or its ranks, come alone.
 
-        `after` is a matching, or ranks of which there is a number for each proposer: those behind them come alone. The program is
-        started when the first one is asked for, again after each million, and is ended where the generator is closed or dropped.
-        Neither side holds more than a few lines, so a listing may be of any length.
+        The program is started when the first one is asked for, again after each million, and is ended where the generator is closed
+        or dropped. Neither side holds more than a few lines, so a listing may be of any length.
         """
         ranks = after.ranks if isinstance(after, Matching) else after or ()
         cursor = ','.join(str(_number('a rank of `after`', it, 0, MOST_IN_VECTOR)) for it in ranks) or '-'
@@ -711,17 +699,14 @@ class Instance(InstanceViews):
         return self._listing([] if after is None else [f'after={cursor}'], left)
 
     def regret(self) -> LeastRegret:
-        """The allowed stable matching whose greatest rank is least, and of several the one that is best for all proposers. Raises
-        NoMatching where none is allowed.
-        """
+        """The allowed stable matching whose greatest rank is least, and of several the best for all proposers, or NoMatching."""
         answer = self._answer('regret')
         return LeastRegret(answer.text, answer.number('regret'), self._matching(answer))
 
     def weight(self, by: str = 'ranks') -> Lightest:
-        """The lightest allowed stable matching, and of several the one that is best for all proposers.
-
-        By 'ranks' the weight is the sum of the ranks that both agents of each pair give each other, by 'given' that of the
-        weights of the pairs, 0 where a pair has none, and then that of the second weights. Raises NoMatching where none is allowed.
+        """The lightest allowed stable matching, and of several the one that is best for all proposers; or NoMatching is raised. By
+        'ranks' the weight is the sum of the ranks that both agents of each pair give each other, by 'given' that of the weights of
+        the pairs, 0 where a pair has none, and then that of the second weights.
         """
         _one_of('by', by, ('ranks', 'given'))
         answer = self._answer('weight', f'by={by}')
@@ -742,9 +727,8 @@ class Instance(InstanceViews):
 
     def median(self) -> Median:
         """The matching that gives each proposer the partner in the middle when those that it has in all allowed stable matchings
-        stand best first, each as often as it occurs; of two the better one. It is stable and allowed too.
-
-        Raises NoMatching where none is allowed, and Refused, as TooMany, where more than 100,000 are.
+        stand best first, each as often as it occurs; of two the better one. It is stable and allowed too. Raises NoMatching where
+        none is allowed, and Refused, as TooMany, where more than 100,000 are.
         """
         answer = self._answer('median')
         return Median(answer.text, answer.number('listed'), self._matching(answer))
@@ -775,11 +759,9 @@ class Instance(InstanceViews):
         return Survey(answer.text, listed, sums[0], regrets[1], regrets[2], first, second, third, later, listed * len(alone), last)
 
     def check(self, answer: Union[str, Result, NoMatching]) -> Verdict:
-        """Whether an answer is right: a result of another method, or a text in the form in which the program writes it.
-
-        It may be an answer of `solve`, `reduced`, `rotations`, `list`, `regret`, `weight`, `meet` or `join`; docs/FORMATS.md
-        says what a yes means. One matching of `list` is no whole answer: `check_matching` takes it. Raises Refused, with the
-        reason 'BadAnswer', for a text of another form.
+        """Whether an answer of `solve`, `reduced`, `rotations`, `list`, `regret`, `weight`, `meet` or `join` is right: a result, or
+        a text in the form in which the program writes it. docs/FORMATS.md says what a yes means. One matching of `list` is no whole
+        answer: `check_matching` takes it. Raises Refused, with the reason 'BadAnswer', for a text of another form.
         """
         claim, front = answer if isinstance(answer, str) else answer.text, self._front()
         written = _ask(front + claim, 'check')
@@ -791,11 +773,10 @@ class Instance(InstanceViews):
         return Verdict(written, False, sentence, reason, line, _line_of(front + claim, line), blocking)
 
     def check_matching(self, matching: GivenMatching, claim: str = 'stable') -> Verdict:
-        """Whether a matching is what it is claimed to be: 'stable', or the 'proposers' or the 'reviewers' best one.
-
-        Forced and forbidden pairs don't count. The reason is 'NotAMatching' at the line of a pair that can't be held,
-        'Blocked' where a pair would both rather have one another, or 'NotBest' where it is stable all the same. The verdict,
-        and with two sides the blocking pair, are the program's; of roommates this module finds the pair.
+        """Whether a matching is what it is claimed to be: 'stable', or the 'proposers' or the 'reviewers' best one. The reason is
+        'NotAMatching' at the line of a pair that can't be held, 'Blocked' where a pair would both rather have one another, or
+        'NotBest' where it is stable all the same. The verdict, and with two sides the pair, are the program's; of roommates this
+        module finds it.
         """
         rooms = self.kind == 'roommates'
         _one_of('claim', claim, ('stable',) if rooms else ('stable', 'proposers', 'reviewers'))
@@ -970,11 +951,8 @@ def _stream(text: str, *words: str) -> Iterator[str]:
     assert called.stdin is not None and called.stdout is not None
     try:
         # The program reads all of the text before it writes anything.
-        try:
-            with called.stdin:
-                called.stdin.write(given)
-        except BrokenPipeError:
-            pass
+        with contextlib.suppress(BrokenPipeError), called.stdin:
+            called.stdin.write(given)
         line = ''
         for read in called.stdout:
             line = read.decode('ascii', 'replace')
