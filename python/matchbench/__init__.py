@@ -16,7 +16,6 @@ import contextlib
 import difflib
 import functools
 import hashlib
-import importlib
 import json
 import operator
 import os
@@ -31,14 +30,15 @@ from types import MappingProxyType
 from typing import Any, Dict, Iterable, Iterator, List, Mapping, NamedTuple, Optional, Sequence, Tuple, Union
 
 try:
-    from .views import InstanceViews, LightestViews, MatchingViews, OrderViews
+    from .views import VERSION as __version__, InstanceViews, LightestViews, MatchingViews, OrderViews
 except ImportError:
     # This file was copied alone.
+    __version__ = 'unknown'
     InstanceViews = LightestViews = MatchingViews = OrderViews = object  # type: ignore[assignment, misc]
 
 __all__ = ['Couples', 'Failed', 'FlowEdge', 'Instance', 'LeastRegret', 'Level', 'Lightest', 'Matching', 'MatchbenchError',
            'Median', 'NoMatching', 'NotStable', 'ProgramMissing', 'Reduced', 'Refused', 'Rest', 'Result', 'Rotation',
-           'RotationOrder', 'Route', 'Seat', 'StablePairs', 'Survey', 'Verdict', 'find_program']
+           'RotationOrder', 'Route', 'Seat', 'StablePairs', 'Survey', 'Verdict', '__version__', 'find_program']
 
 Name = Any
 Pair = Tuple[Name, Name]
@@ -232,22 +232,6 @@ def _released(folder: str) -> str:
         raise ProgramMissing(f'{path} doesn\'t run here: it wants Linux on x86-64-v2 with the GNU C library 2.34 or later'
                              + f' ({done.stderr.decode(errors="replace").strip()})' * bool(done.stderr))
     return path
-
-
-def _version() -> str:
-    """The version of the repository in which this file is, else of the installed module."""
-    try:
-        with open(os.path.join(os.path.dirname(os.path.realpath(__file__)), '..', '..', 'CITATION.cff'), encoding='utf-8') as file:
-            return str(re.findall(r'(?ms)^title: "matchbench.*^version: "([^"]+)"', file.read())[0])
-    except (OSError, IndexError):
-        metadata = importlib.import_module('importlib.metadata')
-    try:
-        return str(metadata.version('matchbench'))
-    except metadata.PackageNotFoundError:
-        return 'unknown'
-
-
-__version__ = _version()
 
 
 class Seat(NamedTuple):
@@ -663,7 +647,7 @@ class Instance(InstanceViews):
         """The stable matching in which every proposer has the best partner that it has in any; with the side 'reviewers' the
         reviewers' best, in which it has the worst. Of roommates, any stable matching, or NoMatching is raised.
         """
-        _one_of('side', side, (None, 'proposers', 'reviewers'))
+        _one_of('side', side or 'proposers', ('proposers', 'reviewers'))
         return self._matching(self._answer('solve', *([f'side={side}'] if side else [])))
 
     def reduced(self) -> Reduced:
@@ -976,10 +960,10 @@ def _line_of(text: str, number: int) -> str:
     return lines[number - 1].rstrip('\r') if 0 < number <= len(lines) else ''
 
 
-def _one_of(what: str, given: Optional[str], allowed: Sequence[Optional[str]]) -> None:
+def _one_of(what: str, given: str, allowed: Sequence[str]) -> None:
     """Raises ValueError for an argument that isn't one of these."""
     if given not in allowed:
-        raise ValueError(f'{what} is {given!r}, and not {" or ".join(repr(it) for it in allowed if it is not None)}')
+        raise ValueError(f'{what} is {given!r}, and not {" or ".join(map(repr, allowed))}')
 
 
 def _number(what: str, given: Any, least: int, most: int) -> int:

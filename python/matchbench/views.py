@@ -5,11 +5,29 @@ Nothing here is a dependency: networkx and pandas are wanted by the methods that
 from __future__ import annotations
 
 import importlib
+import os
+import re
 from typing import Any, Dict, Mapping, Optional, Type, TypeVar
 
 from . import drawing, tables
 
 Kind = TypeVar('Kind', bound='InstanceViews')
+
+
+def _version() -> str:
+    """The version of the repository in which this file is, else of the installed module."""
+    try:
+        with open(os.path.join(os.path.dirname(os.path.realpath(__file__)), '..', '..', 'CITATION.cff'), encoding='utf-8') as file:
+            return str(re.findall(r'(?ms)^title: "matchbench.*^version: "([^"]+)"', file.read())[0])
+    except (OSError, IndexError):
+        metadata = importlib.import_module('importlib.metadata')
+    try:
+        return str(metadata.version('matchbench'))
+    except metadata.PackageNotFoundError:
+        return 'unknown'
+
+
+VERSION = _version()
 
 
 def _frame(columns: Dict[str, Any]) -> Any:
