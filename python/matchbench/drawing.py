@@ -89,13 +89,13 @@ def of_matching(matching: Any, taken: Iterable[int], colour: str) -> Box:
 
 def picture(boxes: Mapping[Any, Box], edges: Sequence[Tuple[Any, Any, str]]) -> Optional[str]:
     """A picture of boxes in layers, each below all from which an edge leads to it, without edges that follow from others. None
-    where there are too many boxes, or a circle.
+    where there are no boxes or too many, or a circle.
     """
-    layers = layers_of(list(boxes), [(a, b) for a, b, _ in edges]) if len(boxes) <= MOST_BOXES else None
+    layers = layers_of(list(boxes), [(a, b) for a, b, _ in edges]) if 0 < len(boxes) <= MOST_BOXES else None
     if layers is None:
         return None
     edges = direct(edges)
-    rows: List[List[Any]] = [[] for _ in range(max(layers.values(), default=-1) + 1)]
+    rows: List[List[Any]] = [[] for _ in range(max(layers.values()) + 1)]
     for it, layer in layers.items():
         rows[layer].append(it)
     # An edge over several layers goes by a point in each between.
