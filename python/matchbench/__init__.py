@@ -1,47 +1,58 @@
 """Stable matchings in Python, found by the program `matchbench`.
 
-An `Instance` is a marriage, hospitals with residents, or roommates, whose agents have any strings as names. Its methods
-ask the program, and give what it answers by these names:
-
     from matchbench import Instance
     instance = Instance.marriage({'Zoë': ['a', 'b'], 'Ólafur': ['b', 'a']}, {'a': ['Ólafur', 'Zoë'], 'b': ['Zoë', 'Ólafur']})
     instance.solve().partners()       # {'Zoë': 'a', 'Ólafur': 'b'}
 
-Each result keeps the text that the program wrote as `text`. That text is what is proved; nothing of this module is. It is
-one file for Python 3.8 or later without dependencies, and may be copied: the environment variable MATCHBENCH then says
-where the program is. docs/PYTHON.md is its guide, docs/FORMATS.md has all that the program reads and writes.
+Each result keeps the text that the program wrote as `text`. That text is what is proved; nothing of this module is. It wants
+Python 3.8 or later alone. This file may be copied as matchbench.py, and then lacks what the files beside it add: pictures, tables
+and what calls the tools. docs/PYTHON.md is its guide, docs/FORMATS.md has all that the program reads and writes.
 
-Ranks and the numbers of seats, rotations and lines are counted from 1.
+Names are any hashable values but None. Ranks and the numbers of seats, rotations and lines are counted from 1.
 """
 from __future__ import annotations
 
+import contextlib
 import difflib
 import functools
 import hashlib
-import importlib
 import json
 import operator
 import os
 import re
 import shutil
 import subprocess
+import sys
 import unicodedata
+from collections import Counter
 from dataclasses import dataclass, field
 from types import MappingProxyType
-from typing import (Any, Callable, Dict, Iterable, Iterator, List, Mapping, NamedTuple, Optional, Protocol, Sequence, Tuple,
-                    Union)
+from typing import Any, Dict, Iterable, Iterator, List, Mapping, NamedTuple, Optional, Sequence, Tuple, Union
 
-__all__ = ['Couples', 'Failed', 'FlowEdge', 'Instance', 'LeastRegret', 'Lightest', 'Matching', 'MatchbenchError', 'Median',
-           'NoMatching', 'NotStable', 'ProgramMissing', 'Reduced', 'Refused', 'Rest', 'Rotation', 'RotationOrder', 'Route',
-           'Seat', 'StablePairs', 'Survey', 'Verdict', 'find_program']
+try:
+    from .views import VERSION as __version__, InstanceViews, LightestViews, MatchingViews, OrderViews
+except ImportError:
+    # This file was copied alone.
+    __version__ = 'unknown'
+    InstanceViews = LightestViews = MatchingViews = OrderViews = object  # type: ignore[assignment, misc]
 
-Pair = Tuple[str, str]
-Lists = Mapping[str, Sequence[str]]
+__all__ = ['Couples', 'Failed', 'FlowEdge', 'Instance', 'LeastRegret', 'Level', 'Lightest', 'Matching', 'MatchbenchError',
+           'Median', 'NoMatching', 'NotStable', 'ProgramMissing', 'Reduced', 'Refused', 'Rest', 'Result', 'Rotation',
+           'RotationOrder', 'Route', 'Seat', 'StablePairs', 'Survey', 'Verdict', '__version__', 'find_program']
+
+Name = Any
+Pair = Tuple[Name, Name]
+# What is given for each agent; in a sequence the agents are their numbers, from 0.
+Lists = Union[Mapping[Any, Iterable[Name]], Sequence[Iterable[Name]]]
+Capacities = Union[Mapping[Any, int], Sequence[int]]
+# For each pair a weight, or a weight and a second one.
+Weights = Mapping[Any, Union[int, Tuple[int, int]]]
 
 MOST_LISTED = 1_000_000
 MOST_IN_VECTOR = 4_294_967_295
 MOST_CAPACITY = 4_096
 MOST_WEIGHT = 1_000_000_000
+WANTED = '{} and {} would both rather have one another'
 
 # What each reason of a refusal says: docs/FORMATS.md, the manual page and the tools have these texts too, and a test compares them.
 REASONS = {
@@ -117,19 +128,17 @@ FAILURES = {
 
 
 class MatchbenchError(Exception):
-    """What all exceptions of this module are, but for the ValueError and TypeError of wrong arguments."""
+    """What all exceptions of this module are, but for those of wrong arguments and of what isn't installed."""
 
 
 class ProgramMissing(MatchbenchError):
-    """There is no program to ask, or it can't be started. The message says how to build it."""
+    """There is no program to ask, or it can't be started."""
 
 
 class Refused(MatchbenchError):
-    """The program doesn't take the input.
-
-    `reason` is the name that docs/FORMATS.md has for it, and `sentence` explains it. `line` is the number of the line in
-    the text, 0 for the text as a whole, and `line_text` what stands there, by the names of the text. For `check`, `meet`,
-    `join` and `route` lines are counted on through what stands behind the instance. `text` is the program's own line.
+    """The program doesn't take the input: `reason` is the name that docs/FORMATS.md has for it, and `sentence` explains it. `line`
+    is counted on through what stands behind the instance, and 0 for the text as a whole; `line_text` is what stands there, by the
+    names of the text, and `text` the program's own line.
     """
 
     def __init__(self, reason: str, line: int, line_text: str, text: str) -> None:
@@ -139,33 +148,29 @@ class Refused(MatchbenchError):
 
     def __str__(self) -> str:
         where = f'line {self.line}' if self.line else 'the text'
-        shown = f', {_shortened(self.line_text)!r}' if self.line_text else ''
+        shown = f', {self.line_text[:100] + "..." * (len(self.line_text) > 100)!r}' if self.line_text else ''
         return f'{where}{shown}: {self.sentence} ({self.reason})'
 
 
 class NotStable(Refused):
-    """One of two matchings given to `meet`, `join` or `route` isn't stable.
-
-    `which` is 'left' or 'right', for the first or second. `cause` is 'breach' where `pair` can't be held, since it isn't
-    acceptable or one of the two has no place left, and 'blocks' where the two would both rather have one another.
+    """One of two given matchings isn't stable: `which` is 'left' or 'right'. The `cause` is 'breach' where `pair` can't be held,
+    since it isn't acceptable or one of the two has no place left, and 'blocks' where the two would both rather have one another.
     """
 
-    def __init__(self, line: int, line_text: str, text: str, which: str, cause: str, pair: Pair) -> None:
+    def __init__(self, line: int, line_text: str, text: str, which: str, cause: str, pair: Pair, why: str) -> None:
         super().__init__('NotStable', line, line_text, text)
-        self.args = (line, line_text, text, which, cause, pair)
-        self.which, self.cause, self.pair = which, cause, pair
-        self.sentence = f'the {which} matching isn\'t stable: {_cause(cause, pair)}'
+        self.args = (line, line_text, text, which, cause, pair, why)
+        self.which, self.cause, self.pair, self.why = which, cause, pair, why
+        self.sentence = f'the {which} matching isn\'t stable: {why}'
 
 
 class NoMatching(MatchbenchError):
-    """There is no such matching, and `text` is the program's answer that says so.
-
-    Of `regret` and `weight`: the forced and forbidden pairs allow no stable matching. Of `solve`: these roommates have
-    none, and `parties` are those of a stable partition, each with its members in the order of successors. One of them has
-    an odd number of three or more members, which shows it.
+    """There is no such matching, and `text` is the program's answer that says so: forced and forbidden pairs allow none, or
+    roommates have none. Then `parties` are those of a stable partition, each in the order of successors, and an odd one of three or
+    more shows it.
     """
 
-    def __init__(self, text: str, parties: Tuple[Tuple[str, ...], ...] = ()) -> None:
+    def __init__(self, text: str, parties: Tuple[Tuple[Name, ...], ...] = ()) -> None:
         super().__init__(text, parties)
         self.text, self.parties = text, parties
 
@@ -174,11 +179,7 @@ class NoMatching(MatchbenchError):
 
 
 class Failed(MatchbenchError):
-    """The program ended without a whole answer: there was no memory (status 4), reading failed (5) or writing (6), and so on.
-
-    `status` is what it ended with, negative where a signal ended it, and `text` what it had written until then: nothing, or
-    a front of an answer, of which `list` keeps the last line alone.
-    """
+    """The program ended without a whole answer: with this status, negative where a signal ended it, and this last line."""
 
     def __init__(self, status: int, text: str) -> None:
         super().__init__(status, text)
@@ -241,293 +242,252 @@ def _released(folder: str) -> str:
 
 class Seat(NamedTuple):
     """A seat of a reviewer, and its number there. In a marriage each reviewer has the one seat 1."""
-
-    reviewer: str
+    reviewer: Name
     number: int
 
 
 @dataclass(frozen=True)
-class Matching:
-    """A matching of proposers and reviewers, equal to another one of its instance that has the same pairs.
-
-    `pairs` has a proposer and a reviewer for each matched proposer, and `ranks` the rank of each proposer's partner, or one
-    more than its list is long where it is unmatched; both are in the order of the instance. `text` is the answer that has
-    this matching; of `list` it is the line with its ranks.
-    """
-
-    pairs: Tuple[Pair, ...]
-    ranks: Tuple[int, ...]
+class Result:
+    """What a command answered, and its text."""
     text: str = field(repr=False, compare=False)
 
-    def partners(self) -> Dict[str, str]:
-        """The reviewer of each matched proposer."""
-        return dict(self.pairs)
 
-    def places(self) -> Dict[str, Tuple[str, ...]]:
-        """The proposers of each reviewer that has one, in the order of the instance."""
-        held: Dict[str, Tuple[str, ...]] = {}
-        for proposer, reviewer in self.pairs:
-            held[reviewer] = held.get(reviewer, ()) + (proposer,)
+@dataclass(frozen=True)
+class Matching(Result, MatchingViews):
+    """A matching: `pairs` has a proposer and a reviewer for each matched proposer, and `ranks` the rank of each proposer's partner,
+    or one more than its list is long where it is alone; both are in the order of the instance. That of `list` has its line as text.
+    """
+    instance: Instance = field(repr=False, compare=False)
+    pairs: Tuple[Pair, ...]
+    ranks: Tuple[int, ...]
+
+    def partners(self) -> Dict[Name, Optional[Name]]:
+        """The reviewer of each proposer, None where it is alone; of roommates the partner of each person."""
+        return {**dict.fromkeys(self.instance.proposers), **dict(self._each())}
+
+    def places(self) -> Dict[Name, Tuple[Name, ...]]:
+        """The proposers of each reviewer, in the order of the instance; of roommates the partner of each person."""
+        held: Dict[Name, Tuple[Name, ...]] = dict.fromkeys(self.instance.reviewers, ())
+        for proposer, reviewer in self._each():
+            held[reviewer] += (proposer,)
         return held
+
+    @property
+    def reviewer_ranks(self) -> Tuple[Optional[int], ...]:
+        """The rank that each proposer has for its partner, None where it is alone: proposer by proposer, as `ranks`."""
+        lists = self.instance.reviewers
+        return tuple(None if r is None else lists[r].index(p) + 1 for p, r in self.partners().items())
+
+    def changed(self, other: Matching) -> Dict[Name, Tuple[Optional[Name], Optional[Name]]]:
+        """Each proposer that has another partner in another matching, with its partners here and there."""
+        there = other.partners()
+        return {p: (r, there[p]) for p, r in self.partners().items() if there[p] != r}
+
+    def _each(self) -> Iterable[Pair]:
+        return self.pairs
 
 
 @dataclass(frozen=True)
 class Couples(Matching):
     """A matching of roommates. `pairs` are the couples, each with the person first that comes first in the instance."""
 
-    def partners(self) -> Dict[str, str]:
-        """The partner of each person that has one."""
-        return {one: other for a, b in self.pairs for one, other in ((a, b), (b, a))}
-
-    def places(self) -> Dict[str, Tuple[str, ...]]:
-        """The partner of each person that has one, alone in a tuple."""
-        return {person: (partner,) for person, partner in self.partners().items()}
+    def _each(self) -> Iterable[Pair]:
+        return [it for pair in self.pairs for it in (pair, pair[::-1])]
 
 
 @dataclass(frozen=True)
-class Reduced:
-    """The reduced lists.
-
-    `first` and `last` have the seat of each matched proposer in the proposers' best stable matching and in the reviewers'
-    best. `proposers` has what is left of each proposer's list, a seat at a time, and `reviewers` the list of each seat.
+class Reduced(Result):
+    """The reduced lists: what is left of each proposer's list, a seat at a time, and the list of each seat. `first` and `last` have
+    the seat of each matched proposer in the proposers' best stable matching and in the reviewers' best.
     """
-
-    first: Dict[str, Seat]
-    last: Dict[str, Seat]
-    proposers: Dict[str, Tuple[Seat, ...]]
-    reviewers: Dict[Seat, Tuple[str, ...]]
-    text: str = field(repr=False, compare=False)
+    first: Dict[Name, Seat]
+    last: Dict[Name, Seat]
+    proposers: Dict[Name, Tuple[Seat, ...]]
+    reviewers: Dict[Seat, Tuple[Name, ...]]
 
 
 @dataclass(frozen=True)
 class Rotation:
     """A rotation: `pairs` has each of its proposers with the seat that it leaves for that of the next pair, the last for that
-    of the first. `needs` are the numbers of rotations that have to be eliminated before, rising; of those that follow from the
-    needs of these some may be left out. `gain` is what it adds to the weight, in an answer of `weight`, and else None.
+    of the first. `needs` are rotations that have to be eliminated before; those that follow from these may be left out.
     """
-
     number: int
-    pairs: Tuple[Tuple[str, Seat], ...]
+    pairs: Tuple[Tuple[Name, Seat], ...]
     needs: Tuple[int, ...]
-    gain: Optional[int] = None
 
-    def moves(self) -> Tuple[Tuple[str, Seat, Seat], ...]:
+    def moves(self) -> Tuple[Tuple[Name, Seat, Seat], ...]:
         """Each proposer with the seat that it leaves and the one to which it goes."""
         seats = [seat for _, seat in self.pairs]
         return tuple((p, old, new) for (p, old), new in zip(self.pairs, seats[1:] + seats[:1]))
 
 
 @dataclass(frozen=True)
-class RotationOrder:
-    """All rotations, in the order of their elimination from the proposers' best on, with what each needs.
-
-    `first` has the seat of each matched proposer in the proposers' best stable matching.
-    """
-
-    first: Dict[str, Seat]
+class RotationOrder(Result, OrderViews):
+    """All rotations, in the order of their elimination from the proposers' best on; `first` has each proposer's seat there."""
+    first: Dict[Name, Seat]
     rotations: Tuple[Rotation, ...]
-    text: str = field(repr=False, compare=False)
 
     def edges(self) -> Tuple[Tuple[int, int], ...]:
-        """The numbers of a rotation and of one that needs it, for each need in an answer."""
+        """The numbers of a rotation and of one that needs it, for each need in the answer."""
         return tuple((needed, it.number) for it in self.rotations for needed in it.needs)
 
-    def graph(self) -> Any:
-        """The order as a `networkx.DiGraph`, for which networkx has to be installed.
-
-        Its nodes are the numbers of the rotations, each with its `Rotation` as the attribute `rotation`; an edge leads from a
-        rotation to each that needs it. Stable matchings correspond to the sets of nodes that no edge enters from outside,
-        and so to `networkx.antichains` of the graph. Raises ImportError.
-        """
-        graph = importlib.import_module('networkx').DiGraph()
-        graph.add_nodes_from((it.number, {'rotation': it}) for it in self.rotations)
-        graph.add_edges_from(self.edges())
-        return graph
-
 
 @dataclass(frozen=True)
-class StablePairs:
-    """The pairs that are together in some stable matching, by proposer and along its list; `fixed` are those of them that are
-    together in every one. Forced and forbidden pairs don't count.
-    """
-
+class StablePairs(Result):
+    """The pairs that are together in some stable matching, by proposer and along its list, and those that are so in every one."""
     pairs: Tuple[Pair, ...]
     fixed: Tuple[Pair, ...]
-    text: str = field(repr=False, compare=False)
 
 
 @dataclass(frozen=True)
-class LeastRegret:
+class LeastRegret(Result):
     """An allowed stable matching of the least regret, and this regret: the greatest rank in one of its pairs, 0 without one."""
-
     regret: int
     matching: Matching
-    text: str = field(repr=False, compare=False)
 
 
 class FlowEdge(NamedTuple):
     """What flows along an edge of the net, between the source 'S', the sink 'T' and rotations by their numbers."""
-
     source: Union[str, int]
     target: Union[str, int]
     amount: int
 
 
 @dataclass(frozen=True)
-class Lightest:
-    """The lightest allowed stable matching and its weight, with what shows that none is lighter.
-
-    `first` and `rotations` are as in a `RotationOrder`, and each rotation has its gain. `flow` is a flow in the net of gains,
-    needs and conditions, `value` what leaves its source, `taken` the numbers of the rotations that it still reaches, and
-    `cut` their cut, which is equal to the value.
+class Level(Result):
+    """One level of weights: the weight of the matching, what each rotation adds, a flow in the level's net, what leaves its source,
+    and the cut of the taken rotations.
     """
-
     total: int
-    matching: Matching
-    first: Dict[str, Seat]
-    rotations: Tuple[Rotation, ...]
+    gains: Tuple[int, ...]
     flow: Tuple[FlowEdge, ...]
-    taken: Tuple[int, ...]
     value: int
     cut: int
-    text: str = field(repr=False, compare=False)
 
 
 @dataclass(frozen=True)
-class Median:
-    """The matching that gives each proposer the partner in the middle of those that it has in all allowed stable matchings, best
-    first, and how many these are.
-    """
+class Lightest(Level, LightestViews):
+    """The lightest allowed stable matching, with what shows that none is lighter: each cut is equal to its value.
 
+    `first` and `rotations` are as in a `RotationOrder`, and `taken` has the numbers of the rotations that the flow still reaches.
+    `second` is the level of second weights, None where no pair has one.
+    """
+    matching: Matching
+    first: Dict[Name, Seat]
+    rotations: Tuple[Rotation, ...]
+    taken: Tuple[int, ...]
+    second: Optional[Level]
+
+
+@dataclass(frozen=True)
+class Median(Result):
+    """The median of the allowed stable matchings, and how many these are."""
     listed: int
     matching: Matching
-    text: str = field(repr=False, compare=False)
 
 
 @dataclass(frozen=True)
-class Route:
+class Route(Result):
     """A shortest way from one stable matching to another: the numbers of the rotations that are taken back, and then of those that
     are eliminated, each in its order. `first` and `rotations` are as in a `RotationOrder`.
     """
-
     back: Tuple[int, ...]
     forth: Tuple[int, ...]
-    first: Dict[str, Seat]
+    first: Dict[Name, Seat]
     rotations: Tuple[Rotation, ...]
-    text: str = field(repr=False, compare=False)
 
 
 @dataclass(frozen=True)
-class Rest:
-    """Roommates of whom some are left out: `out` has the first member of each odd party of three or more, and `matching` the
-    couples of the others, no two of whom would both rather have one another.
-    """
-
-    out: Tuple[str, ...]
+class Rest(Result):
+    """Who of some roommates is left out, the first member of each odd party of three or more, and the couples of the others."""
+    out: Tuple[Name, ...]
     matching: Matching
-    text: str = field(repr=False, compare=False)
 
 
 @dataclass(frozen=True)
-class Survey:
-    """Figures over the allowed stable matchings, or over the first of them in the order of `list`.
-
-    `listed` is how many they were, `rank_sum` the sum of all proposers' ranks in all of them, and `least_regret` and
-    `greatest_regret` are the least and the greatest of their regrets, 0 where there were none. `profile` counts how often a
-    proposer has its first choice, its second, its third, and a later one or nobody. `last` is None where these were all, and
-    else the ranks of the last of them. Figures stop at 2 ** 64 - 1.
+class Survey(Result):
+    """Figures over the allowed stable matchings, or over the first of them in the order of `list`: how many they were, the sum of
+    all proposers' ranks in all of them, the least and the greatest of their regrets, 0 where there were none, how often a proposer
+    has its first choice, its second, its third and a later one, and how often one is alone. `last` is None where these were all,
+    and else the ranks of the last of them.
     """
-
     listed: int
     rank_sum: int
     least_regret: int
     greatest_regret: int
-    profile: Tuple[int, ...]
+    first: int
+    second: int
+    third: int
+    later: int
+    unmatched: int
     last: Optional[Tuple[int, ...]]
-    text: str = field(repr=False, compare=False)
 
 
 @dataclass(frozen=True)
-class Verdict:
-    """Whether an answer, or a claim on a matching, is right. A verdict is true where it is.
-
-    Else `reason` is the first reason for which it isn't, `sentence` explains it, and `line` is the line at which it shows,
-    counted from the first of the instance, and `line_text` what stands there. `blocking` is a pair that would both rather
-    have one another, where `check_matching` found one. `text` is what the program wrote.
+class Verdict(Result):
+    """Whether an answer, or a claim on a matching, is right: a verdict is true where it is. Else `reason` is the first one for
+    which it isn't, `sentence` explains it, and `line` is where it shows, counted from the first of the instance. `blocking` is a
+    pair that would both rather have one another, where that is the reason.
     """
-
     right: bool
-    line: Optional[int]
-    line_text: str
-    reason: Optional[str]
     sentence: str
-    blocking: Optional[Pair]
-    text: str = field(repr=False, compare=False)
+    reason: Optional[str] = None
+    line: Optional[int] = None
+    line_text: str = ''
+    blocking: Optional[Pair] = None
 
     def __bool__(self) -> bool:
         return self.right
 
 
-class HasText(Protocol):
-    """Any result that is a whole answer."""
-
-    @property
-    def text(self) -> str:
-        """The answer."""
-
-
 # A matching of one's own: one from here, a reviewer or None for each proposer, or pairs.
-GivenMatching = Union[Matching, Mapping[str, Optional[str]], Iterable[Pair]]
+GivenMatching = Union[Matching, Mapping[Any, Optional[Name]], Iterable[Pair]]
 
 
 class _Side:
     """The agents of one side by their own names: lists, capacities, and their names in the text."""
 
-    def __init__(self, word: str, lists: Dict[str, Tuple[str, ...]], names: Sequence[str], capacities: Dict[str, int]) -> None:
-        self.word, self.lists, self.capacities = word, lists, capacities
-        self.names = dict(zip(lists, names))
-        self.originals = dict(zip(names, lists))
-
-    @staticmethod
-    def of(word: str, lists: Lists, letter: str, capacities: Optional[Mapping[str, int]] = None) -> _Side:
-        """A side as it was given; each agent has one place where there are no capacities."""
-        kept: Dict[str, Tuple[str, ...]] = {}
-        for name, row in lists.items():
-            if not isinstance(name, str):
-                raise TypeError(f'the name {name!r} is no string')
-            if isinstance(row, (str, bytes, set, frozenset)):
+    def __init__(self, word: str, given: Lists, capacities: Optional[Capacities] = None,
+                 names: Optional[Sequence[str]] = None) -> None:
+        self.word = word
+        self.lists: Dict[Name, Tuple[Name, ...]] = {}
+        for name, row in _by_agent(word, given).items():
+            if name is None:
+                raise TypeError('None is no name: it stands for being alone')
+            if isinstance(row, (str, bytes, set, frozenset, Mapping)):
                 raise TypeError(f'the list of {name!r} is {row!r}, and not a list of names, best first')
-            kept[name] = tuple(row)
-        places = {name: 1 for name in kept}
-        if capacities is not None:
-            missing = [name for name in kept if name not in capacities]
-            if missing:
-                others = f', nor have {len(missing) - 1} others' if missing[1:] else ''
-                raise ValueError(f'{missing[0]!r} has no capacity{others}')
-            places = {name: operator.index(capacities[name]) for name in kept}
-        side = _Side(word, kept, sound_names(list(kept), letter), places)
-        for name in capacities or ():
-            side.name(name, 'the capacities')
-        return side
+            self.lists[name] = tuple(row)
+        if names is None:
+            texts = list(map(str, self.lists))
+            counts = Counter(texts)
+            names = sound_names([text if text is it or counts[text] == 1 else '' for it, text in zip(self.lists, texts)], word[0])
+        self.names, self.originals = dict(zip(self.lists, names)), dict(zip(names, self.lists))
+        places = dict.fromkeys(self.lists, 1) if capacities is None else _by_agent('capacities', capacities)
+        for it in places:
+            self.name(it, 'the capacities')
+        missing = [it for it in self.lists if it not in places]
+        if missing:
+            raise ValueError(f'{missing[0]!r} has no capacity' + f', nor have {len(missing) - 1} others' * (len(missing) > 1))
+        self.capacities = {it: _number(f'the capacity of {it!r}', places[it], 0, MOST_CAPACITY) for it in self.lists}
 
-    def name(self, original: object, where: str) -> str:
+    def name(self, original: Name, where: str) -> str:
         """The name in the text of an agent of this side; `where` says where it was named."""
-        if isinstance(original, str) and original in self.names:
-            return self.names[original]
-        near = difflib.get_close_matches(original, list(self.names)[:500], 1, 0.8) if isinstance(original, str) else []
-        raise ValueError(f'{original!r} in {where} is none of the {self.word}' + (f'; is {near[0]!r} meant?' if near else ''))
+        try:
+            return str(self.names[original])
+        except (KeyError, TypeError):
+            known = [it for it in self.lists if isinstance(it, str)][:500] if isinstance(original, str) else []
+            hint = ''.join(f'; is {it!r} meant?' for it in difflib.get_close_matches(str(original), known, 1, 0.8))
+            raise ValueError(f'{original!r} in {where} is none of the {self.word}{hint}') from None
 
     def lines(self, keyword: str, other: _Side, with_capacities: bool) -> Iterator[str]:
         """The lines of the agents."""
         for name, row in self.lists.items():
             where = f'the list of {name!r}'
-            if len(set(row)) < len(row):
-                twice = next(it for place, it in enumerate(row) if it in row[:place])
-                raise ValueError(f'{twice!r} stands twice on {where}')
-            if other is self and name in row:
-                raise ValueError(f'{name!r} stands on {where}')
+            names = [other.name(it, where) for it in row]
+            if len(set(names)) < len(names):
+                raise ValueError(f'{next(it for place, it in enumerate(row) if it in row[:place])!r} stands twice on {where}')
             shown = f' [{self.capacities[name]}]' if with_capacities else ''
-            yield f'{keyword} {self.names[name]}{shown}: {" ".join(other.name(it, where) for it in row)}'.rstrip()
+            yield f'{keyword} {self.names[name]}{shown}: {" ".join(names)}'.rstrip()
 
     def seat(self, shown: str) -> Seat:
         """The seat that a field of an answer names."""
@@ -535,118 +495,151 @@ class _Side:
         return Seat(self.originals[name], int(number or 1))
 
 
-class Instance:
-    """An instance, which doesn't change once it is made.
+class Instance(InstanceViews):
+    """An instance: its `kind` ('marriage', 'hospitals' or 'roommates'), the lists of its `proposers` and of its `reviewers`, whose
+    `capacities` say how many each takes, and the names that they have in the text; of roommates both sides are the persons.
 
-    `marriage`, `hospitals`, `roommates`, `from_text`, `from_json` and `make` make one. Every other method starts the program
-    once, unless it says otherwise, and raises ProgramMissing, Failed, and Refused where the program doesn't take the instance:
-    lists of more than 524,288 entries, for example. A call takes some two milliseconds, and on the largest instances a few
-    tenths of a second; reading the results in Python may take as long again.
+    `marriage`, `hospitals`, `roommates`, `from_text`, `from_json`, `from_tables` and `make` make one, which doesn't change. Two are
+    equal if they have the same parts in the same order. Most methods start the program, and raise ProgramMissing, Failed, and
+    Refused where it doesn't take the instance: lists of more than 524,288 entries, for example. A call takes some two milliseconds,
+    and on the largest instances a few tenths of a second; reading the results may take as long again.
 
-    `solve`, `reduced`, `rotations`, `pairs`, `meet`, `join` and `route` speak of all stable matchings, whatever pairs are forced
-    and forbidden; `list`, `survey`, `regret`, `weight` and `median` of the allowed ones: those that have each forced pair and no
-    forbidden one. Roommates have `solve`, `list`, `rest`, `check` and `check_matching` alone.
+    `list`, `survey`, `regret`, `weight` and `median` speak of the allowed stable matchings, which have each forced pair and no
+    forbidden one, the other methods of all. Roommates have `solve`, `list`, `rest`, `check` and `check_matching` alone.
     """
 
-    def __init__(self, text: str, kind: str, proposers: _Side, reviewers: _Side) -> None:
+    def __init__(self, kind: str, sides: Sequence[_Side], weights: Optional[Weights] = None, forced: Iterable[Pair] = (),
+                 forbidden: Iterable[Pair] = (), order: Optional[Iterable[Name]] = None, text: Optional[str] = None) -> None:
         """For the methods below, which make instances."""
-        self._text, self._kind, self._proposers, self._reviewers = text, kind, proposers, reviewers
-        self._front = _front(text)
+        self.kind, self._proposers, self._reviewers = kind, sides[0], sides[-1]
+        self.proposers, self.reviewers = MappingProxyType(sides[0].lists), MappingProxyType(sides[-1].lists)
+        self.capacities = MappingProxyType(sides[-1].capacities)
+        self.proposer_names, self.reviewer_names = MappingProxyType(sides[0].names), MappingProxyType(sides[-1].names)
+        self._weights = {pair: _weight(pair, it) for pair, it in (weights or {}).items()}
+        self._forced, self._forbidden = [(p, r) for p, r in forced], [(p, r) for p, r in forbidden]
+        self._order = None if order is None else list(order)
+        self._text = '\n'.join([*self._lines_of_text(), 'end', '']) if text is None else text
 
     @classmethod
-    def marriage(cls, proposers: Lists, reviewers: Lists, *, weights: Optional[Mapping[Pair, int]] = None,
-                 forced: Iterable[Pair] = (), forbidden: Iterable[Pair] = ()) -> Instance:
-        """A marriage: each agent with its list, best first.
+    def marriage(cls, proposers: Lists, reviewers: Lists, *, weights: Optional[Weights] = None, forced: Iterable[Pair] = (),
+                 forbidden: Iterable[Pair] = (), order: Optional[Iterable[Name]] = None) -> Instance:
+        """A marriage: each agent with its list, best first; in a list of lists the agents are their numbers, from 0.
 
-        `weights` gives pairs a weight for `weight(by='given')`; `forced` pairs have to be held, and `forbidden` ones mustn't
-        be. In each pair the proposer stands first. Choices that aren't returned have no effect, but keep their rank. Raises
-        ValueError for a name that the other side doesn't have, and for one that stands twice on a list.
+        `weights` gives pairs, a proposer and a reviewer, a weight for `weight(by='given')`, or two; `forced` pairs have to be held,
+        and `forbidden` ones mustn't be. `order` has the proposers by whose ranks `list` compares first. Choices that aren't
+        returned have no effect, but keep their rank. Raises ValueError for a name that the other side doesn't have or that stands
+        twice on a list, and for a number out of its limits.
         """
-        sides = _Side.of('proposers', proposers, 'p'), _Side.of('reviewers', reviewers, 'r')
-        return cls(_text_of('marriage', *sides, weights, forced, forbidden), 'marriage', *sides)
+        return cls('marriage', (_Side('proposers', proposers), _Side('reviewers', reviewers)), weights, forced, forbidden, order)
 
     @classmethod
-    def hospitals(cls, proposers: Lists, reviewers: Lists, capacities: Mapping[str, int], *,
-                  weights: Optional[Mapping[Pair, int]] = None, forced: Iterable[Pair] = (),
-                  forbidden: Iterable[Pair] = ()) -> Instance:
-        """Hospitals with residents: the reviewers take as many proposers as `capacities` says of each, from 0 on.
-
-        All else is as for `marriage`. Raises ValueError too where a reviewer has no capacity.
-        """
-        sides = _Side.of('proposers', proposers, 'p'), _Side.of('reviewers', reviewers, 'r', capacities)
-        return cls(_text_of('hospitals', *sides, weights, forced, forbidden), 'hospitals', *sides)
+    def hospitals(cls, proposers: Lists, reviewers: Lists, capacities: Capacities, *, weights: Optional[Weights] = None,
+                  forced: Iterable[Pair] = (), forbidden: Iterable[Pair] = (), order: Optional[Iterable[Name]] = None) -> Instance:
+        """Hospitals with residents, as `marriage`, but for how many proposers each reviewer takes: from 0 to 4,096."""
+        sides = _Side('proposers', proposers), _Side('reviewers', reviewers, capacities)
+        return cls('hospitals', sides, weights, forced, forbidden, order)
 
     @classmethod
     def roommates(cls, persons: Lists) -> Instance:
-        """Roommates: each person with its list of others, best first. Raises ValueError as `marriage` does."""
-        side = _Side.of('persons', persons, 'p')
-        return cls(_text_of('roommates', side, side, None, (), ()), 'roommates', side, side)
+        """Roommates: each person with its list of others."""
+        side = _Side('persons', persons)
+        for name, row in side.lists.items():
+            if name in row:
+                raise ValueError(f'{name!r} stands on the list of {name!r}')
+        return cls('roommates', (side,))
 
     @classmethod
-    def from_text(cls, text: Union[str, bytes]) -> Instance:
-        """The instance of a text in the form of docs/FORMATS.md; its agents have the names that they have there.
-
-        The text isn't judged here: where it is faulty the program refuses it as soon as it is asked something.
+    def from_text(cls, text: Union[str, bytes], names: Optional[str] = None) -> Instance:
+        """The instance of a text in the form of docs/FORMATS.md. Its agents have the names that they have there, or those of the
+        table of names at a path, which `write_names` or tools/from_csv wrote.
         """
         given = text.decode('utf-8', 'surrogateescape') if isinstance(text, bytes) else text
-        return cls(given, *_read(given))
+        value = json.loads(_ask(given, 'export'))
+        return cls._of_value(value, given, cls._originals(names) if names is not None else {})
 
     @classmethod
     def from_json(cls, given: Union[str, bytes, Mapping[str, Any]]) -> Instance:
-        """The instance of JSON in the form of docs/FORMATS.md, which `to_json` gives, or of its value, as `json.loads` gives it.
-
-        Its text is the one that the value stands for, so its agents have the names that they have there. Raises ValueError
-        where this is no instance in JSON. What is faulty in its text, such as a name that nobody has, the program refuses as
-        soon as it is asked something.
+        """The instance of JSON in the form of docs/FORMATS.md, or of its value, as `json.loads` gives it. Any strings may be names.
+        Doesn't start the program. Raises ValueError where this is no instance in JSON.
         """
-        text = _text_of_json(_value_of(given) if isinstance(given, (str, bytes)) else given)
-        return cls(text, *_read(text))
+        value = json.loads(given) if isinstance(given, (str, bytes)) else given
+        kind = value.get('kind') if isinstance(value, Mapping) else None
+        if kind not in ('marriage', 'hospitals', 'roommates'):
+            raise ValueError('no instance in JSON: it is an object, and its kind is "marriage", "hospitals" or "roommates"')
+        try:
+            _look_at(_FORM[kind], value, '')
+            return cls._of_value(value)
+        except TypeError as fault:
+            raise ValueError(f'no instance in JSON: {fault}') from None
 
     @classmethod
     def make(cls, shape: str, size: int, seed: int) -> Instance:
-        """A made instance, the same for the same arguments.
-
-        The shape is 'random' (a marriage with shuffled complete lists), 'hospitals' (with an eighth as many hospitals of seven
-        places), 'rooms' (roommates), 'cycle' or 'copies'. The size goes up to 512, for 'copies' to 2,048. Raises Failed with
-        the status 2 for others.
+        """A made instance, the same for the same arguments: 'random' (a marriage with shuffled complete lists), 'hospitals' (with
+        an eighth as many hospitals of seven places), 'rooms' (roommates), 'cycle' or 'copies'. The size goes to 512, of the last to
+        2,048.
         """
-        words = f'shape={shape}', f'size={operator.index(size)}', f'seed={operator.index(seed)}'
-        return cls.from_text(_ask('', 'make', *words)[1])
+        _one_of('shape', shape, ('random', 'hospitals', 'rooms', 'cycle', 'copies'))
+        size, seed = _number('size', size, 1, 2048 if shape == 'copies' else 512), _number('seed', seed, 0, 2 ** 64 - 1)
+        return cls.from_text(_ask('', 'make', f'shape={shape}', f'size={size}', f'seed={seed}'))
+
+    @classmethod
+    def _of_value(cls, value: Mapping[str, Any], text: Optional[str] = None,
+                  originals: Mapping[str, Mapping[str, str]] = MappingProxyType({})) -> Instance:
+        """The instance of a value in JSON, or of its text, whose names have originals for each side."""
+        words = ('persons',) if value['kind'] == 'roommates' else ('proposers', 'reviewers')
+        p, r = ({it['name']: originals.get(word, {}).get(it['name'], it['name']) for it in value[word]}
+                for word in (words[0], words[-1]))
+        sides = []
+        for word, own, other in zip(words, (p, r), (r, p)):
+            lists = _once(((own[it['name']], [other.get(entry, entry) for entry in it['list']]) for it in value[word]), word)
+            capacities = {own[it['name']]: it['capacity'] for it in value[word] if 'capacity' in it}
+            sides.append(_Side(word, lists, capacities or None, None if text is None else list(own)))
+
+        def pairs(word: str) -> List[Tuple[Pair, Tuple[int, ...]]]:
+            return [((p.get(a, a), r.get(b, b)), tuple(numbers)) for a, b, *numbers in value.get(word, ())]
+
+        order = [p.get(it, it) for it in value['order']] if 'order' in value else None
+        forced, forbidden = ([pair for pair, _ in pairs(word)] for word in ('forced', 'forbidden'))
+        return cls(value['kind'], sides, _once(pairs('weights'), 'weights'), forced, forbidden, order, text)
 
     def __repr__(self) -> str:
         if self.kind == 'roommates':
-            return f'<Instance of roommates: {len(self._proposers.lists)} persons>'
-        return f'<Instance of {self.kind}: {len(self._proposers.lists)} proposers, {len(self._reviewers.lists)} reviewers>'
+            return f'<Instance of roommates: {len(self.proposers)} persons>'
+        return f'<Instance of {self.kind}: {len(self.proposers)} proposers, {len(self.reviewers)} reviewers>'
 
-    @property
-    def kind(self) -> str:
-        """'marriage', 'hospitals' or 'roommates'."""
-        return self._kind
+    def __reduce__(self) -> Tuple[Any, ...]:
+        sides = self._proposers, self._reviewers
+        return Instance, (self.kind, sides, self._weights, self._forced, self._forbidden, self._order, self._text)
 
-    @property
-    def proposers(self) -> Mapping[str, Tuple[str, ...]]:
-        """The list of each proposer, in the order in which the program numbers them; of roommates those of the persons."""
-        return MappingProxyType(self._proposers.lists)
+    def __eq__(self, other: object) -> bool:
+        return isinstance(other, Instance) and self._parts() == other._parts()
 
-    @property
-    def reviewers(self) -> Mapping[str, Tuple[str, ...]]:
-        """The list of each reviewer; of roommates those of the persons."""
-        return MappingProxyType(self._reviewers.lists)
+    def __hash__(self) -> int:
+        return hash(self._parts()[:4])
 
-    @property
-    def capacities(self) -> Mapping[str, int]:
-        """How many proposers each reviewer takes."""
-        return MappingProxyType(self._reviewers.capacities)
+    def _parts(self) -> Tuple[object, ...]:
+        """What two equal instances have alike; the first four can be hashed."""
+        agents = tuple(self.proposers.items()), tuple(self.reviewers.items()), tuple(self.capacities.items())
+        return (self.kind, *agents, {pair: (it + (0,))[:2] for pair, it in self._weights.items()}, set(self._forced),
+                set(self._forbidden), list(dict.fromkeys([*(self._order or ()), *self.proposers])))
 
-    @property
-    def proposer_names(self) -> Mapping[str, str]:
-        """The name that each proposer, or person, has in the text."""
-        return MappingProxyType(self._proposers.names)
+    def _lines_of_text(self) -> Iterator[str]:
+        """The lines of the text before `end`."""
+        is_second = self._order is not None or any(len(it) > 1 for it in self._weights.values())
+        yield f'stable {2 if is_second else 1} {self.kind}'
+        yield from self._proposers.lines('p', self._reviewers, False)
+        if self.kind != 'roommates':
+            yield from self._reviewers.lines('r', self._proposers, self.kind == 'hospitals')
+        for pair, numbers in self._weights.items():
+            yield ' '.join([*self._lines('weight', [pair], 'the weights'), *map(str, numbers)])
+        yield from self._lines('force', self._forced, 'the forced pairs')
+        yield from self._lines('forbid', self._forbidden, 'the forbidden pairs')
+        if self._order is not None:
+            yield ' '.join(['order', *(self._proposers.name(it, 'the order') for it in self._order)])
 
-    @property
-    def reviewer_names(self) -> Mapping[str, str]:
-        """The name that each reviewer has in the text."""
-        return MappingProxyType(self._reviewers.names)
+    def _lines(self, keyword: str, pairs: Iterable[Pair], where: str = 'the matching') -> Iterator[str]:
+        """The lines of pairs, which are named somewhere."""
+        return (f'{keyword} {self._proposers.name(p, where)} {self._reviewers.name(r, where)}' for p, r in pairs)
 
     def to_text(self) -> str:
         """The text that the program reads. Doesn't start it."""
@@ -654,272 +647,258 @@ class Instance:
 
     def to_json(self) -> str:
         """The instance in JSON, as `export` writes it: one line without spaces, by the names of the text."""
-        return _ask(self._text, 'export')[1]
+        return _ask(self._text, 'export')
 
     def solve(self, side: Optional[str] = None) -> Matching:
-        """The stable matching in which every proposer has the best partner that it has in any.
-
-        With the side 'reviewers' it is the one in which every proposer has the worst, which is the reviewers' best;
-        'proposers' is what is taken without a side. Of roommates, which have no side, any stable matching, as `Couples`.
-        Raises NoMatching where roommates have none.
+        """The stable matching in which every proposer has the best partner that it has in any; with the side 'reviewers' the
+        reviewers' best, in which it has the worst. Of roommates, any stable matching, or NoMatching is raised.
         """
-        _one_of('side', side, (None, 'proposers', 'reviewers'))
-        answer = self._answer('solve', *([f'side={side}'] if side else []))
-        if ['none'] in answer.lines:
-            raise NoMatching(answer.text, tuple(tuple(self._proposers.originals[it] for it in row) for row in answer.of('party')))
-        return self._matching(answer)
+        _one_of('side', side or 'proposers', ('proposers', 'reviewers'))
+        return self._matching(self._answer('solve', *([f'side={side}'] if side else [])))
 
     def reduced(self) -> Reduced:
         """The first and last partners and the reduced lists. On the largest lists this takes most of all commands."""
         answer = self._answer('reduced')
         seat, proposer = self._reviewers.seat, self._proposers.originals
-        return Reduced(
-            {proposer[p]: seat(s) for p, s in answer.of('first')},
-            {proposer[p]: seat(s) for p, s in answer.of('last')},
-            {proposer[p]: tuple(seat(it) for it in _list_of(row)) for p, *row in answer.of('proposer')},
-            {seat(s): tuple(proposer[it] for it in _list_of(row)) for s, *row in answer.of('reviewer')},
-            answer.text)
+        first, last = ({proposer[p]: seat(s) for p, s in answer.of(word)} for word in ('first', 'last'))
+        proposers = {proposer[p]: tuple(map(seat, _list_of(row))) for p, *row in answer.of('proposer')}
+        reviewers = {seat(s): tuple(proposer[it] for it in _list_of(row)) for s, *row in answer.of('reviewer')}
+        return Reduced(answer.text, first, last, proposers, reviewers)
 
     def rotations(self) -> RotationOrder:
         """All rotations, and the order in which they can be eliminated."""
         answer = self._answer('rotations')
-        return RotationOrder(*self._chain(answer), answer.text)
+        return RotationOrder(answer.text, *self._chain(answer))
 
     def pairs(self) -> StablePairs:
         """The pairs of stable matchings, and those that are in all of them."""
         answer = self._answer('pairs')
-        found = [(words[0], self._pair(*words[1:])) for words in answer.lines]
-        return StablePairs(tuple(it for _, it in found), tuple(it for word, it in found if word == 'all'), answer.text)
+        found = [(words[0], self._pair(words)) for words in answer.lines]
+        return StablePairs(answer.text, tuple(it for _, it in found), tuple(it for word, it in found if word == 'all'))
 
     def list(self, after: Union[None, Matching, Sequence[int]] = None, limit: Optional[int] = None) -> Iterator[Matching]:
         """A generator of the allowed stable matchings, in the order of their ranks: the lower number first where two first
-        differ. Of roommates it is all stable matchings, as `Couples`.
+        differ. Those behind `after`, a matching or its ranks, come alone.
 
-        It goes on to the end, or until it has given as many as `limit` says. `after` is a matching, or ranks of which there
-        is a number for each proposer, or each person: those behind them come alone. The program is started when the first one
-        is asked for, works while more are, and is ended where the generator is closed or dropped; after each million it is
-        started again.
-        Neither side holds more than a few lines, so a listing may be of any length. Raises ValueError for a faulty argument
-        at once, and what the program says when the first matching is asked for.
+        The program is started when the first one is asked for, again after each million, and is ended where the generator is closed
+        or dropped. Neither side holds more than a few lines, so a listing may be of any length.
         """
-        cursor = None if after is None else _vector(after.ranks if isinstance(after, Matching) else after)
-        if limit is not None and operator.index(limit) < 0:
-            raise ValueError(f'the limit {limit!r} is below 0')
-        return self._listing(cursor, limit)
+        ranks = after.ranks if isinstance(after, Matching) else after or ()
+        cursor = ','.join(str(_number('a rank of `after`', it, 0, MOST_IN_VECTOR)) for it in ranks) or '-'
+        left = sys.maxsize if limit is None else _number('limit', limit, 0, sys.maxsize)
+        return self._listing([] if after is None else [f'after={cursor}'], left)
 
     def regret(self) -> LeastRegret:
-        """The allowed stable matching whose greatest rank is least, and of several the one that is best for all proposers.
-
-        Raises NoMatching where none is allowed.
-        """
-        answer = self._allowed('regret')
-        return LeastRegret(int(answer.of('regret')[0][0]), self._matching(answer), answer.text)
+        """The allowed stable matching whose greatest rank is least, and of several the best for all proposers, or NoMatching."""
+        answer = self._answer('regret')
+        return LeastRegret(answer.text, answer.number('regret'), self._matching(answer))
 
     def weight(self, by: str = 'ranks') -> Lightest:
-        """The lightest allowed stable matching, and of several the one that is best for all proposers.
-
-        By 'ranks' the weight is the sum of the ranks that both agents of each pair give each other, by 'given' that of the
-        weights of the pairs, 0 where a pair has none. Raises NoMatching where none is allowed.
+        """The lightest allowed stable matching, and of several the one that is best for all proposers; or NoMatching is raised. By
+        'ranks' the weight is the sum of the ranks that both agents of each pair give each other, by 'given' that of the weights of
+        the pairs, 0 where a pair has none, and then that of the second weights.
         """
         _one_of('by', by, ('ranks', 'given'))
-        answer = self._allowed('weight', f'by={by}')
-
-        def number(keyword: str) -> int:
-            return int(answer.of(keyword)[0][0])
-
-        flow = tuple(FlowEdge(_node(a), _node(b), int(amount)) for a, b, amount in answer.of('flow'))
-        return Lightest(number('total'), self._matching(answer), *self._chain(answer), flow,
-                        tuple(int(it) for it in _list_of(answer.of('taken')[0])), number('value'), number('cut'), answer.text)
+        answer = self._answer('weight', f'by={by}')
+        second = Level(answer.text, *answer.level('2')) if answer.of('total2') else None
+        first, rotations = self._chain(answer)
+        return Lightest(answer.text, *answer.level(''), matching=self._matching(answer), first=first, rotations=rotations,
+                        taken=tuple(map(int, _list_of(answer.of('taken')[0]))), second=second)
 
     def meet(self, left: GivenMatching, right: GivenMatching) -> Matching:
-        """Of two stable matchings the one in which each proposer has the better of its two partners. It is stable too.
-
-        Raises NotStable where one of the two isn't, and ValueError for a name that the instance doesn't have.
+        """Of two stable matchings the one in which each proposer has the better of its two partners. It is stable too. Raises
+        NotStable where one of the two isn't.
         """
         return self._matching(self._given('meet', left, right))
 
     def join(self, left: GivenMatching, right: GivenMatching) -> Matching:
-        """The same with the worse of its two partners, where being unmatched is worst."""
+        """The same with the worse of its two partners, where being alone is worst."""
         return self._matching(self._given('join', left, right))
 
     def median(self) -> Median:
         """The matching that gives each proposer the partner in the middle when those that it has in all allowed stable matchings
-        stand best first, each as often as it occurs; of two the better one. It is stable and allowed too.
-
-        Raises NoMatching where none is allowed, and Refused, as TooMany, where more than 100,000 are.
+        stand best first, each as often as it occurs; of two the better one. It is stable and allowed too. Raises NoMatching where
+        none is allowed, and Refused, as TooMany, where more than 100,000 are.
         """
-        answer = self._allowed('median')
-        return Median(int(answer.of('listed')[0][0]), self._matching(answer), answer.text)
+        answer = self._answer('median')
+        return Median(answer.text, answer.number('listed'), self._matching(answer))
 
     def route(self, left: GivenMatching, right: GivenMatching) -> Route:
-        """The fewest rotations back and forth that lead from one stable matching to another.
-
-        Raises NotStable where one of the two isn't stable, and ValueError for a name that the instance doesn't have.
-        """
+        """The fewest rotations back and forth that lead from one stable matching to another. Raises as `meet` does."""
         answer = self._given('route', left, right)
-        back, forth = (tuple(int(it[0]) for it in answer.of(word)) for word in ('back', 'forth'))
-        return Route(back, forth, *self._chain(answer), answer.text)
+        back, forth = (tuple(int(it) for it, in answer.of(word)) for word in ('back', 'forth'))
+        return Route(answer.text, back, forth, *self._chain(answer))
 
     def rest(self) -> Rest:
-        """Of roommates who is left out, and a matching of the others. Where there is a stable matching nobody is left out, and this
-        is one.
-        """
+        """Of roommates who is left out, and a matching of the others: a stable one of all where there is one."""
         answer = self._answer('rest')
-        out = tuple(self._proposers.originals[words[0]] for words in answer.of('out'))
-        return Rest(out, self._matching(answer), answer.text)
+        return Rest(answer.text, tuple(self._proposers.originals[it] for it, in answer.of('out')), self._matching(answer))
 
     def survey(self, limit: int = MOST_LISTED) -> Survey:
-        """Figures over the allowed stable matchings, up to a limit of at most a million. Takes as long as listing them."""
-        if not 1 <= operator.index(limit) <= MOST_LISTED:
-            raise ValueError(f'the limit {limit!r} is none from 1 to {MOST_LISTED:,}')
-        answer = self._answer('survey', f'limit={operator.index(limit)}')
-        tallies = {row[0]: [int(it) for it in row[1:]] for row in answer.of('tally')}
-        last = _ranks(answer.tail[1]) if answer.tail[0] == 'more' else None
-        return Survey(int(answer.of('listed')[0][0]), tallies['2'][0], tallies['3'][1], tallies['3'][2],
-                      tuple(tallies['4']), last, answer.text)
-
-    def check(self, answer: Union[str, HasText]) -> Verdict:
-        """Whether an answer is right: a result of another method, or a text in the form in which the program writes it.
-
-        It may be an answer of `solve`, `reduced`, `rotations`, `list`, `regret`, `weight`, `meet` or `join`; docs/FORMATS.md
-        says what a yes means. One matching of `list` is no whole answer: `check_matching` takes it. Raises Refused, with the
-        reason 'BadAnswer', for a text of another form.
+        """Figures over the allowed stable matchings, up to a limit of at most a million. Takes as long as listing them, and starts
+        the program twice.
         """
-        claim = answer if isinstance(answer, str) else answer.text
-        text = self._front + claim
-        status, written = _ask(text, 'check')
-        words = written.split('\n')[1].split(' ')
-        if words[0] == 'yes':
-            return Verdict(True, None, '', None, 'the answer is right', None, written)
-        line = int(words[1])
-        sentence = VERDICTS.get(words[2], 'the answer isn\'t right')
-        return Verdict(False, line, _line_of(text, line), words[2], sentence, None, written)
+        answer = self._answer('survey', f'limit={_number("limit", limit, 1, MOST_LISTED)}')
+        listed, (_, sums, regrets, ranks) = answer.number('listed'), [list(map(int, it[1:])) for it in answer.of('tally')]
+        # The same agents are alone in all stable matchings. The program counts them by the rank behind their lists.
+        alone = [p for p, r in self.solve().partners().items() if r is None]
+        for p in alone:
+            ranks[min(len(self.proposers[p]), 3)] -= listed
+        last = _ranks(answer.tail[1]) if answer.tail[0] == 'more' else None
+        first, second, third, later = ranks
+        return Survey(answer.text, listed, sums[0], regrets[1], regrets[2], first, second, third, later, listed * len(alone), last)
+
+    def check(self, answer: Union[str, Result, NoMatching]) -> Verdict:
+        """Whether an answer of `solve`, `reduced`, `rotations`, `list`, `regret`, `weight`, `meet` or `join` is right: a result, or
+        a text in the form in which the program writes it. docs/FORMATS.md says what a yes means. One matching of `list` is no whole
+        answer: `check_matching` takes it. Raises Refused, with the reason 'BadAnswer', for a text of another form.
+        """
+        claim, front = answer if isinstance(answer, str) else answer.text, self._front()
+        written = _ask(front + claim, 'check')
+        said, *where = written.split('\n')[1].split(' ')
+        if said == 'yes':
+            return Verdict(written, True, 'the answer is right')
+        line, reason = int(where[0]), where[1]
+        sentence, blocking = self._told(reason, [it.split(' ') for it in claim.split('\n')[:line - front.count('\n')]])
+        return Verdict(written, False, sentence, reason, line, _line_of(front + claim, line), blocking)
 
     def check_matching(self, matching: GivenMatching, claim: str = 'stable') -> Verdict:
-        """Whether a matching is what it is claimed to be: 'stable', or the 'proposers' or the 'reviewers' best one.
-
-        Forced and forbidden pairs don't count. The reason is 'NotAMatching' at the line of a pair that can't be held,
-        'Blocked' where a pair would both rather have one another, or 'NotBest' where it is stable all the same. The verdict,
-        and with two sides the blocking pair, are the program's, which is started once or twice; of roommates this module
-        finds the pair. Raises ValueError for a name that the instance doesn't have.
+        """Whether a matching is what it is claimed to be: 'stable', or the 'proposers' or the 'reviewers' best one. The reason is
+        'NotAMatching' at the line of a pair that can't be held, 'Blocked' where a pair would both rather have one another, or
+        'NotBest' where it is stable all the same. The verdict, and with two sides the pair, are the program's; of roommates this
+        module finds it.
         """
-        _one_of('claim', claim, ('stable', 'proposers', 'reviewers'))
         rooms = self.kind == 'roommates'
-        if rooms and claim != 'stable':
-            raise ValueError(f'roommates have no side {claim!r}')
-        pairs = self._named(matching)
-        if claim == 'stable' and not rooms:
-            return self._stable(pairs)
-        head = 'answer solve' if rooms else f'answer solve side={claim}'
-        verdict = self.check('\n'.join([head] + [f'pair {p} {r}' for p, r in pairs] + ['end', '']))
-        if verdict.reason != 'Blocked':
-            return verdict
-        blocking = self._blocking_couple(pairs) if rooms else self._stable(pairs).blocking
-        sentence = _cause('blocks', blocking) if blocking else verdict.sentence
-        return Verdict(False, verdict.line, verdict.line_text, 'Blocked', sentence, blocking, verdict.text)
+        _one_of('claim', claim, ('stable',) if rooms else ('stable', 'proposers', 'reviewers'))
+        pairs = self._pairs_of(matching)
+        if rooms or claim != 'stable':
+            return self.check('\n'.join(['answer solve' + f' side={claim}' * (not rooms), *self._lines('pair', pairs), 'end', '']))
+        try:
+            return Verdict(self._given('meet', pairs, pairs).text, True, 'the matching is stable')
+        except NotStable as fault:
+            reason, blocking = ('Blocked', fault.pair) if fault.cause == 'blocks' else ('NotAMatching', None)
+            return Verdict(fault.text, False, fault.why, reason, fault.line, fault.line_text, blocking)
+
+    def _told(self, reason: str, lines: List[List[str]]) -> Tuple[str, Optional[Pair]]:
+        """What is told of a reason at the last of some lines of an answer, which are words, and the pair that blocks there."""
+        sentence, last = VERDICTS.get(reason, 'the answer isn\'t right'), lines[-1]
+        groups: Dict[str, List[Pair]] = {}
+        for words in lines[1:-1]:
+            if words[0] in ('pair', 'first', 'last', 'left', 'right'):
+                groups.setdefault(words[0], []).append(self._pair(words))
+        if reason == 'NotAMatching' and last[0] in ('pair', 'first', 'last', 'left', 'right'):
+            return self._why(groups.get(last[0], []), self._pair(last)) or sentence, None
+        if reason == 'NotBest' and lines[0][1] == 'solve':
+            side = lines[0][2].partition('=')[2]
+            best, here = self.solve(side).partners(), dict(groups.get('pair', []))
+            p = next(it for it in best if best[it] != here.get(it))
+            return f'the matching is stable, but in the {side}\' best {p} is with {best[p]}, and not with {here.get(p)}', None
+        if reason == 'Blocked':
+            given = [[*self._pairs_at(_ranks(last[1]))]] if last[0] == 'vector' else [*groups.values()] or [[]]
+            for blocking in filter(None, map(self._blocking, given)):
+                return WANTED.format(*blocking), blocking
+        return sentence, None
+
+    def _why(self, pairs: Sequence[Pair], pair: Pair) -> str:
+        """Why a pair can't be held beside others; nothing where it can be."""
+        why = [f'{one} doesn\'t list {other}' for one, other, lists in ((*pair, self.proposers), (*pair[::-1], self.reviewers))
+               if other not in lists[one]]
+        for place, side in enumerate((self._proposers, self._reviewers)):
+            one = pair[place]
+            held = [it[1 - at] for it in pairs for at in ((0, 1) if self.kind == 'roommates' else (place,)) if it[at] == one]
+            if len(held) >= side.capacities[one]:
+                full = 'full ' * (len(held) > 1)
+                why.append(f'{one} is {full}with {" and ".join(map(str, held))}' if held else f'{one} has no place')
+        return f'{pair[0]} can\'t be with {pair[1]}, since {why[0]}' if why else ''
+
+    def _blocking(self, pairs: List[Pair]) -> Optional[Pair]:
+        """A pair that blocks a matching: of roommates the first one, else the program's."""
+        if self.kind != 'roommates':
+            return self.check_matching(pairs).blocking
+        partners = dict(it for pair in pairs for it in (pair, pair[::-1]))
+        better = {one: row[:row.index(partners[one])] if one in partners else row for one, row in self.proposers.items()}
+        return next(((one, other) for one in better for other in better[one] if other != one and one in better[other]), None)
+
+    def _front(self) -> str:
+        """The text up to its line `end`: what may stand before an answer."""
+        found = re.search(r'^[ \t]*end[ \t\r]*(?:#.*)?$', self._text, re.M)
+        return (self._text[:found.end()] if found else self._text) + '\n'
 
     def _answer(self, *words: str) -> _Answer:
-        """An answer to this instance."""
-        return _Answer(_ask(self._text, *words)[1])
-
-    def _allowed(self, *words: str) -> _Answer:
-        """An answer of `regret`, `weight` or `median`."""
-        answer = self._answer(*words)
-        if answer.lines == [['none']]:
-            raise NoMatching(answer.text)
+        """An answer to this instance. Raises NoMatching where it has none."""
+        answer = _Answer(_ask(self._text, *words))
+        if ['none'] in answer.lines:
+            raise NoMatching(answer.text, tuple(tuple(self._proposers.originals[it] for it in row) for row in answer.of('party')))
         return answer
 
     def _given(self, command: str, left: GivenMatching, right: GivenMatching) -> _Answer:
         """An answer of `meet`, `join` or `route`."""
-        sides = ('left', self._named(left)), ('right', self._named(right))
-        lines = [f'{word} {p} {r}' for word, pairs in sides for p, r in pairs]
-        return _Answer(_ask(self._front + '\n'.join(lines + ['end', '']), command, pair=self._pair)[1])
-
-    def _stable(self, pairs: List[Pair]) -> Verdict:
-        """Whether pairs, by the names of the text, are a stable matching: `meet` with itself says so."""
-        lines = [f'{word} {p} {r}' for word in ('left', 'right') for p, r in pairs]
-        text = self._front + '\n'.join(lines + ['end', ''])
+        given = {'left': self._pairs_of(left), 'right': self._pairs_of(right)}
+        lines = [it for word, pairs in given.items() for it in self._lines(word, pairs)]
         try:
-            written = _ask(text, 'meet', pair=self._pair)[1]
-        except NotStable as fault:
-            blocks = fault.cause == 'blocks'
-            return Verdict(False, fault.line, fault.line_text, 'Blocked' if blocks else 'NotAMatching',
-                           _cause(fault.cause, fault.pair), fault.pair if blocks else None, fault.text)
-        return Verdict(True, None, '', None, 'the matching is stable', None, written)
+            return _Answer(_ask(self._front() + '\n'.join([*lines, 'end', '']), command))
+        except Refused as fault:
+            if fault.reason != 'NotStable':
+                raise
+            which, cause, *names = fault.text.split()[3:]
+            pair, why = self._pair(['', *names]), ''
+            if cause == 'breach':
+                before = fault.line - self._front().count('\n') - 1 - (len(given['left']) if which == 'right' else 0)
+                why = self._why(given[which][:before], pair)
+            why = why or WANTED.format(*pair)
+            raise NotStable(fault.line, fault.line_text, fault.text, which, cause, pair, why) from None
 
-    def _blocking_couple(self, pairs: List[Pair]) -> Optional[Pair]:
-        """The first couple of persons that would both rather have one another."""
-        lists, person = self._proposers.lists, self._proposers.originals
-        partners = Couples(tuple((person[p], person[r]) for p, r in pairs), (), '').partners()
-
-        def better(one: str) -> Tuple[str, ...]:
-            return lists[one][:lists[one].index(partners[one])] if one in partners else lists[one]
-
-        return next(((one, other) for one in lists for other in better(one) if other != one and one in better(other)), None)
-
-    def _listing(self, cursor: Optional[str], limit: Optional[int]) -> Iterator[Matching]:
+    def _listing(self, after: List[str], left: int) -> Iterator[Matching]:
         """The generator of `list`."""
-        form = Couples if self.kind == 'roommates' else Matching
-        left = limit
-        while left is None or left > 0:
-            page = MOST_LISTED if left is None else min(left, MOST_LISTED)
-            words = ['list'] + ([] if cursor is None else [f'after={cursor}']) + [f'limit={page}']
-            goes_on = False
-            for line in _stream(self._text, *words):
+        form, keyword = Couples if self.kind == 'roommates' else Matching, 'more'
+        while keyword == 'more' and left > 0:
+            for line in _stream(self._text, 'list', *after, f'limit={min(left, MOST_LISTED)}'):
                 keyword, _, shown = line.rstrip('\n').partition(' ')
                 if keyword == 'vector':
-                    cursor = shown
-                    ranks = _ranks(shown)
-                    yield form(self._pairs_at(ranks), ranks, line)
-                goes_on = keyword == 'more'
-            if not goes_on:
-                return
-            left = None if left is None else left - page
+                    after, ranks = [f'after={shown}'], _ranks(shown)
+                    yield form(line, self, self._pairs_at(ranks), ranks)
+            left -= MOST_LISTED
 
     def _pairs_at(self, ranks: Tuple[int, ...]) -> Tuple[Pair, ...]:
         """The pairs of a rank vector; of roommates each couple once, with the person first that comes first."""
-        pairs = {p: row[rank - 1] for (p, row), rank in zip(self._proposers.lists.items(), ranks) if rank <= len(row)}
+        pairs = {p: row[rank - 1] for (p, row), rank in zip(self.proposers.items(), ranks) if rank <= len(row)}
         if self.kind == 'roommates':
             for person in list(pairs):
                 if person in pairs:
                     pairs.pop(pairs[person], None)
         return tuple(pairs.items())
 
-    def _pair(self, proposer: str, reviewer: str) -> Pair:
-        """A pair of the text by the agents' own names."""
-        return self._proposers.originals[proposer], self._reviewers.originals[reviewer]
+    def _pair(self, words: Sequence[str]) -> Pair:
+        """The pair behind the keyword of a line, without a seat's number."""
+        return self._proposers.originals[words[1]], self._reviewers.originals[words[2].partition('/')[0]]
 
     def _matching(self, answer: _Answer) -> Matching:
         """The matching of an answer's `pair` lines."""
-        pairs = tuple(self._pair(*words) for words in answer.of('pair'))
-        form = Couples if self.kind == 'roommates' else Matching
-        partners = form(pairs, (), '').partners()
-        ranks = tuple(row.index(partners[p]) + 1 if p in partners else len(row) + 1 for p, row in self._proposers.lists.items())
-        return form(pairs, ranks, answer.text)
+        return self._with(answer.text, tuple(self._pair(words) for words in answer.lines if words[0] == 'pair'))
 
-    def _chain(self, answer: _Answer) -> Tuple[Dict[str, Seat], Tuple[Rotation, ...]]:
+    def _with(self, text: str, pairs: Tuple[Pair, ...]) -> Matching:
+        """The matching of pairs, of which a text tells."""
+        form = Couples if self.kind == 'roommates' else Matching
+        partners = form(text, self, pairs, ()).partners()
+        ranks = tuple(len(row) + 1 if partners[p] is None else row.index(partners[p]) + 1 for p, row in self.proposers.items())
+        return form(text, self, pairs, ranks)
+
+    def _chain(self, answer: _Answer) -> Tuple[Dict[Name, Seat], Tuple[Rotation, ...]]:
         """The first seats and the rotations of an answer."""
         proposer, seat = self._proposers.originals, self._reviewers.seat
-        needs = {words[0]: tuple(int(it) for it in _list_of(words[1:])) for words in answer.of('needs')}
-        gains = {number: int(gain) for number, gain in answer.of('gain')}
         rotations = []
-        for number, *row in answer.of('rotation'):
+        for (number, *row), (_, *needs) in zip(answer.of('rotation'), answer.of('needs')):
             pairs = tuple((proposer[p], seat(s)) for p, s in zip(row[::2], row[1::2]))
-            rotations.append(Rotation(int(number), pairs, needs[number], gains.get(number)))
+            rotations.append(Rotation(int(number), pairs, tuple(map(int, _list_of(needs)))))
         return {proposer[p]: seat(s) for p, s in answer.of('first')}, tuple(rotations)
 
-    def _named(self, matching: GivenMatching) -> List[Pair]:
-        """The pairs of a matching by the names of the text; of roommates each couple once."""
-        if isinstance(matching, Matching):
-            given: Iterable[Tuple[str, Optional[str]]] = matching.pairs
-        elif isinstance(matching, Mapping):
-            given = matching.items()
-        else:
-            given = matching
-        where = 'the matching'
-        pairs = [(self._proposers.name(p, where), self._reviewers.name(r, where)) for p, r in given if r is not None]
+    def _pairs_of(self, matching: GivenMatching) -> List[Pair]:
+        """The pairs of a matching; of roommates each couple once."""
+        given: Any = matching.pairs if isinstance(matching, Matching) else matching
+        pairs = [(p, r) for p, r in (given.items() if isinstance(given, Mapping) else given) if r is not None]
+        list(self._lines('pair', pairs))
         if self.kind == 'roommates':
-            numbers = {name: number for number, name in enumerate(self._proposers.originals)}
+            numbers = {name: number for number, name in enumerate(self.proposers)}
             pairs = list(dict.fromkeys((p, r) if numbers[p] <= numbers[r] else (r, p) for p, r in pairs))
         return pairs
 
@@ -929,31 +908,32 @@ class _Answer:
 
     def __init__(self, text: str) -> None:
         self.text = text
-        lines = [it.split(' ') for it in text.split('\n')[:-1]]
-        self.lines, self.tail = lines[1:-1], lines[-1]
+        _, *self.lines, self.tail = [it.split(' ') for it in text.split('\n')[:-1]]
 
     def of(self, keyword: str) -> List[List[str]]:
         """What stands behind a keyword, for each of its lines."""
         return [words[1:] for words in self.lines if words[0] == keyword]
 
+    def number(self, keyword: str) -> int:
+        """The number behind a keyword."""
+        return int(self.of(keyword)[0][0])
 
-def _ask(text: str, *words: str, pair: Optional[Callable[[str, str], Pair]] = None) -> Tuple[int, str]:
-    """The status of one call and what it wrote, where that is a whole answer. Raises ProgramMissing, Failed and Refused; `pair`
-    gives a pair of the text its own names.
-    """
-    program = find_program()
-    try:
-        done = subprocess.run([program, *words], input=_encoded(text), stdout=subprocess.PIPE)
-    except OSError as fault:
-        raise ProgramMissing(f'{program} can\'t be started: {fault.strerror}') from fault
-    written = done.stdout.decode('ascii', 'replace')
-    _look(done.returncode, written, written[written.rfind('\n', 0, -1) + 1:], text, pair)
-    return done.returncode, written
+    def level(self, mark: str) -> Tuple[int, Tuple[int, ...], Tuple[FlowEdge, ...], int, int]:
+        """The values of a level of weights, whose keywords end with a mark."""
+        ends: Dict[str, Any] = {'S': 'S', 'T': 'T'}
+        flow = tuple(FlowEdge(ends.get(a) or int(a), ends.get(b) or int(b), int(it)) for a, b, it in self.of(f'flow{mark}'))
+        gains = tuple(int(gain) for _, gain in self.of(f'gain{mark}'))
+        return self.number(f'total{mark}'), gains, flow, self.number(f'value{mark}'), self.number(f'cut{mark}')
+
+
+def _ask(text: str, *words: str) -> str:
+    """What one call wrote. Raises ProgramMissing, Failed and Refused."""
+    return ''.join(_stream(text, *words))
 
 
 def _stream(text: str, *words: str) -> Iterator[str]:
     """The lines of one call, each as soon as it is there. The program is ended with the generator. Raises as `_ask` does."""
-    program = find_program()
+    program, given = find_program(), text.encode('utf-8', 'surrogateescape')
     try:
         called = subprocess.Popen([program, *words], stdin=subprocess.PIPE, stdout=subprocess.PIPE)
     except OSError as fault:
@@ -961,40 +941,23 @@ def _stream(text: str, *words: str) -> Iterator[str]:
     assert called.stdin is not None and called.stdout is not None
     try:
         # The program reads all of the text before it writes anything.
-        try:
-            with called.stdin:
-                called.stdin.write(_encoded(text))
-        except BrokenPipeError:
-            pass
+        with contextlib.suppress(BrokenPipeError), called.stdin:
+            called.stdin.write(given)
         line = ''
         for read in called.stdout:
             line = read.decode('ascii', 'replace')
-            if line.startswith(('answer', 'vector', 'end', 'more')) and line.endswith('\n'):
+            if line.endswith('\n'):
                 yield line
-        _look(called.wait(), line, line, text, None)
+        status, said = called.wait(), line.split()
+        if status == 1 and said[:1] == ['refused'] and len(said) in (3, 7):
+            raise Refused(said[1], int(said[2]), _line_of(text, int(said[2])), line)
+        is_last = line.startswith('{') if words[0] == 'export' else said[:1] in (['end'], ['more'])
+        if status not in (0, 3, 7) or not line.endswith('\n') or not is_last:
+            raise Failed(status, line)
     finally:
         called.kill()
         called.wait()
         called.stdout.close()
-
-
-def _look(status: int, written: str, last: str, text: str, pair: Optional[Callable[[str, str], Pair]]) -> None:
-    """Raises what a status and a last line mean, where they aren't those of an answer or of an instance in JSON."""
-    words = last.split()
-    if status == 1 and words[:1] == ['refused'] and len(words) in (3, 7):
-        line = int(words[2])
-        if len(words) == 7:
-            named = pair(words[5], words[6]) if pair else (words[5], words[6])
-            raise NotStable(line, _line_of(text, line), written, words[3], words[4], named)
-        raise Refused(words[1], line, _line_of(text, line), written)
-    is_last = words[:1] in (['end'], ['more']) or last.startswith('{')
-    if status not in (0, 3, 7) or not last.endswith('\n') or not is_last:
-        raise Failed(status, written)
-
-
-def _encoded(text: str) -> bytes:
-    """A text as it is handed over."""
-    return text.encode('utf-8', 'surrogateescape')
 
 
 def _line_of(text: str, number: int) -> str:
@@ -1003,22 +966,45 @@ def _line_of(text: str, number: int) -> str:
     return lines[number - 1].rstrip('\r') if 0 < number <= len(lines) else ''
 
 
-def _shortened(text: str) -> str:
-    """A text of which a message shows the beginning."""
-    return text if len(text) <= 100 else text[:100] + '...'
-
-
-def _cause(cause: str, pair: Pair) -> str:
-    """Why a matching isn't stable."""
-    if cause == 'blocks':
-        return f'{pair[0]} and {pair[1]} would both rather have one another'
-    return f'{pair[0]} can\'t be with {pair[1]}: they don\'t list each other, or one of them has no place left'
-
-
-def _one_of(what: str, given: Optional[str], allowed: Sequence[Optional[str]]) -> None:
+def _one_of(what: str, given: str, allowed: Sequence[str]) -> None:
     """Raises ValueError for an argument that isn't one of these."""
     if given not in allowed:
-        raise ValueError(f'{what} is {given!r}, and not {" or ".join(repr(it) for it in allowed if it is not None)}')
+        raise ValueError(f'{what} is {given!r}, and not {" or ".join(map(repr, allowed))}')
+
+
+def _number(what: str, given: Any, least: int, most: int) -> int:
+    """A whole number within bounds; one of numpy is one too, and True is none."""
+    if isinstance(given, bool) or not hasattr(given, '__index__'):
+        raise TypeError(f'{what} is {given!r}, and no whole number')
+    number = operator.index(given)
+    if not least <= number <= most:
+        raise ValueError(f'{what} is {number:,}, and not from {least:,} to {most:,}')
+    return number
+
+
+def _weight(pair: Pair, given: Any) -> Tuple[int, ...]:
+    """A weight, and perhaps a second one."""
+    numbers = tuple(given) if isinstance(given, (tuple, list)) else (given,)
+    if len(numbers) not in (1, 2):
+        raise ValueError(f'the weight of {pair!r} is {given!r}, and not one number or two')
+    return tuple(_number(f'the weight of {pair!r}', it, -MOST_WEIGHT, MOST_WEIGHT) for it in numbers)
+
+
+def _by_agent(what: str, given: Any) -> Mapping[Any, Any]:
+    """What is given for each agent; in a sequence agents are their numbers."""
+    if isinstance(given, (str, bytes)):
+        raise TypeError(f'the {what} are {given!r}, and not a dict or a list')
+    return given if isinstance(given, Mapping) else dict(enumerate(given))
+
+
+def _once(items: Iterable[Tuple[Any, Any]], word: str) -> Dict[Any, Any]:
+    """The items of a member of JSON by their keys, of which none may stand twice."""
+    found: Dict[Any, Any] = {}
+    for key, it in items:
+        if key in found:
+            raise ValueError(f'{key!r} stands twice in the {word}')
+        found[key] = it
+    return found
 
 
 def _list_of(words: List[str]) -> List[str]:
@@ -1028,20 +1014,35 @@ def _list_of(words: List[str]) -> List[str]:
 
 def _ranks(shown: str) -> Tuple[int, ...]:
     """The numbers of a vector."""
-    return () if shown == '-' else tuple(int(it) for it in shown.split(','))
+    return () if shown == '-' else tuple(map(int, shown.split(',')))
 
 
-def _vector(ranks: Sequence[int]) -> str:
-    """A vector as the program reads it."""
-    numbers = [operator.index(it) for it in ranks]
-    if any(not 0 <= it <= MOST_IN_VECTOR for it in numbers):
-        raise ValueError(f'the ranks {ranks!r} aren\'t all from 0 to {MOST_IN_VECTOR:,}')
-    return ','.join(map(str, numbers)) or '-'
+# The forms of instances in JSON: a dict has members, some with ? only perhaps; a list has items of one form; a tuple has lengths.
+_AGENT: Dict[str, Any] = {'name': None, 'list': [None]}
+_PAIRS: Dict[str, Any] = {'kind': None, '?weights': [(3, 4)], '?forced': [(2,)], '?forbidden': [(2,)], '?order': [None]}
+_FORM = {'marriage': {**_PAIRS, 'proposers': [_AGENT], 'reviewers': [_AGENT]},
+         'hospitals': {**_PAIRS, 'proposers': [_AGENT], 'reviewers': [{**_AGENT, 'capacity': None}]},
+         'roommates': {'kind': None, 'persons': [_AGENT]}}
 
 
-def _node(shown: str) -> Union[str, int]:
-    """A node of the net."""
-    return shown if shown in ('S', 'T') else int(shown)
+def _look_at(form: Any, value: Any, where: str) -> None:
+    """Raises TypeError where a value hasn't a form."""
+    if isinstance(form, dict):
+        if not isinstance(value, Mapping):
+            raise TypeError(f'{where} is no object')
+        forms = {it.lstrip('?'): inner for it, inner in form.items()}
+        missing = [f'no member {it!r}' for it in form if it[0] != '?' and it not in value]
+        for wrong in missing + [f'a member {it!r}' for it in value if it not in forms]:
+            raise TypeError(f'{where or "the value"} has {wrong}')
+        for it in value:
+            _look_at(forms[it], value[it], f'{where}.{it}'.lstrip('.'))
+    elif form and not isinstance(value, (list, tuple)):
+        raise TypeError(f'{where} is no array')
+    elif isinstance(form, list):
+        for place, it in enumerate(value):
+            _look_at(form[0], it, f'{where}[{place}]')
+    elif form and len(value) not in form:
+        raise TypeError(f'{where} has {len(value)} items')
 
 
 def _can_run(path: str) -> bool:
@@ -1084,154 +1085,3 @@ def sound_names(originals: Sequence[str], letter: str) -> List[str]:
             taken.add(form)
         names.append(form)
     return names
-
-
-def _text_of(kind: str, proposers: _Side, reviewers: _Side, weights: Optional[Mapping[Pair, int]], forced: Iterable[Pair],
-             forbidden: Iterable[Pair]) -> str:
-    """The text of an instance."""
-    lines = [f'stable 1 {kind}', *proposers.lines('p', reviewers, False)]
-    if kind != 'roommates':
-        lines += reviewers.lines('r', proposers, kind == 'hospitals')
-    for (p, r), weight in (weights or {}).items():
-        lines.append(f'weight {proposers.name(p, "the weights")} {reviewers.name(r, "the weights")} {operator.index(weight)}')
-    for keyword, what, pairs in (('force', 'the forced pairs', forced), ('forbid', 'the forbidden pairs', forbidden)):
-        lines += [f'{keyword} {proposers.name(p, what)} {reviewers.name(r, what)}' for p, r in pairs]
-    return '\n'.join(lines + ['end', ''])
-
-
-# From JSON to the text that it stands for.
-
-
-def _value_of(given: Union[str, bytes]) -> object:
-    """The value of a text in JSON. Of several members of one name the last counts, and -0 is no whole number."""
-    text = given.decode('utf-8') if isinstance(given, bytes) else given
-    try:
-        return json.loads(text, parse_int=lambda it: -0.0 if it == '-0' else int(it), parse_constant=_not_json)
-    except RecursionError:
-        raise ValueError('this JSON nests too deep') from None
-
-
-def _not_json(word: str) -> object:
-    """What Python reads and JSON doesn't have."""
-    raise ValueError(f'{word} is no JSON')
-
-
-def _text_of_json(value: object) -> str:
-    """The text of a value."""
-    kind = value.get('kind') if isinstance(value, Mapping) else None
-    if kind == 'roommates':
-        members = _members(value, 'the value', ('kind', 'persons'))
-        return '\n'.join(['stable 1 roommates', *_agent_lines('p', 'persons', members['persons'], False), 'end', ''])
-    if kind != 'marriage' and kind != 'hospitals':
-        raise ValueError('no instance in JSON: it is an object, and its kind is "marriage", "hospitals" or "roommates"')
-    members = _members(value, 'the value', ('kind', 'proposers', 'reviewers'), ('weights', 'forced', 'forbidden', 'order'))
-    lines = [*_agent_lines('p', 'proposers', members['proposers'], False),
-             *_agent_lines('r', 'reviewers', members['reviewers'], kind == 'hospitals')]
-    weights = list(_pair_lines('weight', 'weights', members.get('weights', ()), (1, 2)))
-    for keyword, word in (('force', 'forced'), ('forbid', 'forbidden')):
-        weights += _pair_lines(keyword, word, members.get(word, ()), (0,))
-    order = [' '.join(['order', *_names_of(members['order'], 'order')])] if 'order' in members else []
-    is_second = bool(order) or any(it.count(' ') == 4 for it in weights)
-    return '\n'.join([f'stable {2 if is_second else 1} {kind}', *lines, *weights, *order, 'end', ''])
-
-
-def _agent_lines(keyword: str, word: str, value: object, has_places: bool) -> Iterator[str]:
-    """The lines of the agents of a member."""
-    for place, it in enumerate(_items(value, word)):
-        where = f'{word}[{place}]'
-        agent = _members(it, where, ('name', 'capacity', 'list') if has_places else ('name', 'list'))
-        name = _names_of([agent['name']], where)[0]
-        shown = f' [{_whole_number(agent["capacity"], 0, MOST_CAPACITY, where)}]' if has_places else ''
-        yield f'{keyword} {name}{shown}: {" ".join(_names_of(agent["list"], where))}'.rstrip()
-
-
-def _pair_lines(keyword: str, word: str, value: object, counts: Tuple[int, ...]) -> Iterator[str]:
-    """The lines of the pairs of a member, each with so many numbers."""
-    for place, it in enumerate(_items(value, word)):
-        where = f'{word}[{place}]'
-        row = _items(it, where)
-        if len(row) - 2 not in counts:
-            raise ValueError(f'no instance in JSON: {where} has {len(row)} items')
-        numbers = [str(_whole_number(number, -MOST_WEIGHT, MOST_WEIGHT, where)) for number in row[2:]]
-        yield ' '.join([keyword, *_names_of(row[:2], where), *numbers])
-
-
-def _members(value: object, where: str, names: Tuple[str, ...], others: Tuple[str, ...] = ()) -> Mapping[str, object]:
-    """The members of a value that has to be an object with exactly these, and perhaps some others."""
-    if not isinstance(value, Mapping):
-        raise ValueError(f'no instance in JSON: {where} is no object')
-    missing = [it for it in names if it not in value]
-    unknown = [it for it in value if it not in names + others]
-    if missing or unknown:
-        what = f'no member {missing[0]!r}' if missing else f'a member {unknown[0]!r}'
-        raise ValueError(f'no instance in JSON: {where} has {what}')
-    return value
-
-
-def _items(value: object, where: str) -> Sequence[object]:
-    """The items of a value that has to be an array."""
-    if not isinstance(value, (list, tuple)):
-        raise ValueError(f'no instance in JSON: {where} is no array')
-    return value
-
-
-def _names_of(value: object, where: str) -> List[str]:
-    """The names of a value that has to be an array of names."""
-    names = []
-    for it in _items(value, where):
-        if not isinstance(it, str) or not _NAME.match(it):
-            raise ValueError(f'no instance in JSON: {it!r} in {where} is no name')
-        names.append(it)
-    return names
-
-
-def _whole_number(value: object, least: int, most: int, where: str) -> int:
-    """A value that has to be a whole number within bounds."""
-    if not isinstance(value, int) or isinstance(value, bool) or not least <= value <= most:
-        raise ValueError(f'no instance in JSON: {value!r} in {where} is no whole number from {least:,} to {most:,}')
-    return value
-
-
-# From a text to names. What the program would refuse is passed over here.
-
-_AGENT = re.compile(r'[ \t]*([pr])[ \t]+([A-Za-z0-9_.-]+)[ \t]*(?:\[[ \t]*([0-9]{1,20})[ \t]*\][ \t]*)?:(.*)')
-_MASTER = re.compile(r'[ \t]*master[ \t]+([A-Za-z0-9_.-]+)[ \t]*:(.*)')
-_USE = re.compile(r'[ \t]*\[[ \t]*([A-Za-z0-9_.-]+)[ \t]*\][ \t\r]*')
-
-
-def _tokens(line: str) -> List[str]:
-    """The words of a line that has no marks within."""
-    return line.split('#', 1)[0].rstrip('\r').replace('\t', ' ').split()
-
-
-def _front(text: str) -> str:
-    """A text up to its line `end`: what may stand before an answer."""
-    lines = text.split('\n')
-    at = next((number for number, line in enumerate(lines) if line.split('#', 1)[0].strip(' \t\r') == 'end'), len(lines) - 1)
-    front = '\n'.join(lines[:at + 1])
-    return front if front.endswith('\n') else front + '\n'
-
-
-def _read(text: str) -> Tuple[str, _Side, _Side]:
-    """The kind and the two sides of a text."""
-    kind = ''
-    lists: Dict[str, Dict[str, Tuple[str, ...]]] = {'p': {}, 'r': {}}
-    capacities: Dict[str, Dict[str, int]] = {'p': {}, 'r': {}}
-    masters: Dict[str, Tuple[str, ...]] = {}
-    for line in _front(text).split('\n'):
-        words = _tokens(line)
-        found = _AGENT.match(line.split('#', 1)[0])
-        master = _MASTER.match(line.split('#', 1)[0])
-        if not kind and words:
-            kind = words[-1]
-        elif master:
-            masters.setdefault(master.group(1), tuple(_tokens(master.group(2))))
-        elif found:
-            keyword, name, capacity, row = found.groups()
-            use = _USE.fullmatch(row)
-            lists[keyword].setdefault(name, masters.get(use.group(1), ()) if use else tuple(_tokens(row)))
-            capacities[keyword].setdefault(name, int(capacity or 1))
-    rooms = kind == 'roommates'
-    proposers = _Side('persons' if rooms else 'proposers', lists['p'], list(lists['p']), capacities['p'])
-    reviewers = _Side('reviewers', lists['r'], list(lists['r']), capacities['r'])
-    return kind, proposers, proposers if rooms else reviewers

@@ -34,7 +34,7 @@ WRONG_JSON = {
     '': 'Expecting value',
     '\ufeff{"kind":"roommates","persons":[]}': 'BOM',
     '{"kind":"roommates","persons":[]} 1': 'Extra data',
-    '{"kind":"roommates","persons":[],"persons":NaN}': 'NaN is no JSON',
+    '{"kind":"roommates","persons":[],"persons":NaN}': 'persons is no array',
     '[]': 'no instance in JSON: it is an object, and its kind is "marriage", "hospitals" or "roommates"',
     '{}': 'its kind is',
     '{"kind":["marriage"],"proposers":[],"reviewers":[]}': 'its kind is',
@@ -42,26 +42,27 @@ WRONG_JSON = {
     '{"kind":"roommates","persons":[],"order":[]}': "the value has a member 'order'",
     '{"kind":"roommates","persons":{}}': 'persons is no array',
     '{"kind":"roommates","persons":["a"]}': 'persons[0] is no object',
-    '{"kind":"roommates","persons":[{"name":"a","list":"b"}]}': 'persons[0] is no array',
-    '{"kind":"roommates","persons":[{"name":"a b","list":[]}]}': "'a b' in persons[0] is no name",
-    '{"kind":"roommates","persons":[{"name":"a\\n","list":[]}]}': "'a\\n' in persons[0] is no name",
-    '{"kind":"roommates","persons":[{"name":"a","list":[1]}]}': '1 in persons[0] is no name',
+    '{"kind":"roommates","persons":[{"name":"a","list":"b"}]}': 'persons[0].list is no array',
+    '{"kind":"roommates","persons":[{"name":["a"],"list":[]}]}': 'unhashable',
+    '{"kind":"roommates","persons":[{"name":null,"list":[]}]}': 'None is no name',
+    '{"kind":"roommates","persons":[{"name":"a","list":[1]}]}': "1 in the list of 'a' is none of the persons",
     '{"kind":"roommates","persons":[{"name":"a","list":[],"capacity":1}]}': "persons[0] has a member 'capacity'",
     '{"kind":"marriage","proposers":[],"reviewers":[],"weights":null}': 'weights is no array',
     '{"kind":"marriage","proposers":[],"reviewers":[],"weights":[["a","x"]]}': 'weights[0] has 2 items',
     '{"kind":"marriage","proposers":[],"reviewers":[],"weights":[["a","x",1,2,3]]}': 'weights[0] has 5 items',
-    '{"kind":"marriage","proposers":[],"reviewers":[],"weights":[["a","x",1.0]]}': '1.0 in weights[0] is no whole number',
-    '{"kind":"marriage","proposers":[],"reviewers":[],"weights":[["a","x",1e2]]}': '100.0 in weights[0] is no whole number',
-    '{"kind":"marriage","proposers":[],"reviewers":[],"weights":[["a","x",-0]]}': '-0.0 in weights[0] is no whole number',
-    '{"kind":"marriage","proposers":[],"reviewers":[],"weights":[["a","x",true]]}': 'True in weights[0] is no whole number',
+    '{"kind":"marriage","proposers":[],"reviewers":[],"weights":[["a","x",1.0]]}': "('a', 'x') is 1.0, and no whole number",
+    '{"kind":"marriage","proposers":[],"reviewers":[],"weights":[["a","x",1e2]]}': "('a', 'x') is 100.0, and no whole number",
+    '{"kind":"marriage","proposers":[],"reviewers":[],"weights":[["a","x",true]]}': "('a', 'x') is True, and no whole number",
     '{"kind":"marriage","proposers":[],"reviewers":[],"weights":[["a","x",1000000001]]}': 'from -1,000,000,000 to 1,000,000,000',
     '{"kind":"marriage","proposers":[],"reviewers":[],"forced":[["a","x",1]]}': 'forced[0] has 3 items',
     '{"kind":"marriage","proposers":[],"reviewers":[],"forbidden":[["a"]]}': 'forbidden[0] has 1 items',
     '{"kind":"hospitals","proposers":[],"reviewers":[{"name":"x","list":[]}]}': "reviewers[0] has no member 'capacity'",
     '{"kind":"hospitals","proposers":[],"reviewers":[{"name":"x","list":[],"capacity":4097}]}': 'from 0 to 4,096',
-    '{"kind":"hospitals","proposers":[],"reviewers":[{"name":"x","list":[],"capacity":"1"}]}': "'1' in reviewers[0] is no whole",
+    '{"kind":"hospitals","proposers":[],"reviewers":[{"name":"x","list":[],"capacity":"1"}]}': "of 'x' is '1', and no whole number",
 }
 PROPOSERS = ['Zoë', 'Zoe', 'Müller, Ann', 'Иван', 'p4', '']
+TWO = {'m1': ['a', 'b'], 'm2': ['b', 'a']}, {'a': ['m2', 'm1'], 'b': ['m1', 'm2']}
+ODD = {'ann': ['ben', 'cem', 'dan'], 'ben': ['cem', 'ann', 'dan'], 'cem': ['ann', 'ben', 'dan'], 'dan': ['ann', 'ben', 'cem']}
 REVIEWERS = ['City Hospital', "St. John's", 'Дом 5', 'west', '-', 'r#']
 
 try:
@@ -103,12 +104,12 @@ def market(lists, rows, capacities):
 
 
 class Small(unittest.TestCase):
-    """Two sides, 220 instances."""
+    """Two sides, 300 instances."""
 
     @asks
     def test_all_matchings(self):
         several = conditioned = 0
-        for seed in range(220):
+        for seed in range(300):
             with self.subTest(seed=seed):
                 lists, rows, capacities = drawn(seed)
                 tried = market(lists, rows, capacities)
@@ -137,24 +138,27 @@ class Small(unittest.TestCase):
         best, worst = instance.solve(), instance.solve(side='reviewers')
         self.assertEqual((best.ranks, worst.ranks), (min(stable), max(stable)))
         for found in (best, worst):
-            self.assertEqual(found.partners(), stable[found.ranks])
-            self.assertEqual(found.places(), {r: tuple(p for p in tried.p if found.partners().get(p) == r)
-                                              for r in found.partners().values()})
+            has = stable[found.ranks]
+            self.assertEqual(found.partners(), {p: has.get(p) for p in tried.p})
+            self.assertEqual(found.places(), {r: tuple(p for p in tried.p if has.get(p) == r) for r in tried.r})
+            self.assertEqual(found.reviewer_ranks, tuple(tried.r[has[p]].index(p) + 1 if p in has else None for p in tried.p))
+        self.assertEqual(best.changed(worst), {p: (r, worst.partners()[p]) for p, r in best.partners().items()
+                                               if r != worst.partners()[p]})
         each = [set(has.items()) for has in stable.values()]
         pairs = instance.pairs()
         self.assertEqual(pairs.pairs, tuple((p, r) for p in tried.p for r in tried.p[p] if any((p, r) in it for it in each)))
         self.assertEqual(pairs.fixed, tuple(it for it in pairs.pairs if all(it in pairs for pairs in each)))
         self.compare_order(instance, tried, stable)
         reduced = instance.reduced()
-        self.assertEqual({p: it.reviewer for p, it in reduced.first.items()}, best.partners())
-        self.assertEqual({p: it.reviewer for p, it in reduced.last.items()}, worst.partners())
+        self.assertEqual({p: it.reviewer for p, it in reduced.first.items()}, dict(best.pairs))
+        self.assertEqual({p: it.reviewer for p, it in reduced.last.items()}, dict(worst.pairs))
         for p, r in pairs.pairs:
             seats = [it for it in reduced.proposers[p] if it.reviewer == r]
             self.assertTrue(seats and all(p in reduced.reviewers[it] for it in seats), (p, r))
         a, b = draw.choice(list(stable)), draw.choice(list(stable))
         meet, join = instance.meet(stable[a], stable[b].items()), instance.join(stable[a], stable[b])
         self.assertEqual((meet.ranks, join.ranks), (tuple(map(min, a, b)), tuple(map(max, a, b))))
-        self.assertEqual((meet.partners(), join.partners()), (stable[meet.ranks], stable[join.ranks]))
+        self.assertEqual((dict(meet.pairs), dict(join.pairs)), (stable[meet.ranks], stable[join.ranks]))
         for answer in (worst, reduced, join):
             self.assertTrue(instance.check(answer))
         self.compare_verdict(instance, tried, draw.choice(list(tried.matchings())), stable)
@@ -181,7 +185,7 @@ class Small(unittest.TestCase):
     def compare_allowed(self, instance, tried, allowed, weights):
         """The commands that forced and forbidden pairs bind."""
         listed = list(instance.list())
-        self.assertEqual([(it.ranks, it.partners()) for it in listed], list(allowed.items()))
+        self.assertEqual([(it.ranks, dict(it.pairs)) for it in listed], list(allowed.items()))
         if listed:
             middle = len(listed) // 2
             self.assertEqual(list(instance.list(after=listed[0], limit=2)), listed[1:3])
@@ -201,6 +205,9 @@ class Small(unittest.TestCase):
         self.assertEqual(
             (survey.listed, survey.rank_sum, survey.least_regret, survey.greatest_regret, survey.last),
             (len(allowed), sum(map(sum, allowed)), min(regrets, default=0), max(regrets, default=0), None))
+        choices = [tried.p[p].index(has[p]) if p in has else None for has in allowed.values() for p in tried.p]
+        self.assertEqual((survey.first, survey.second, survey.third, survey.unmatched), tuple(map(choices.count, (0, 1, 2, None))))
+        self.assertEqual(survey.later, sum(it is not None and it > 2 for it in choices))
         if not allowed:
             for ask in (instance.regret, instance.weight, lambda: instance.weight(by='given')):
                 self.assertRaises(NoMatching, ask)
@@ -213,15 +220,16 @@ class Small(unittest.TestCase):
             return least, allowed[min(ranks for ranks, has in allowed.items() if measure(has) == least)]
 
         least = instance.regret()
-        self.assertEqual((least.regret, least.matching.partners()), best_of(regret))
+        self.assertEqual((least.regret, dict(least.matching.pairs)), best_of(regret))
         self.assertTrue(instance.check(least))
         for by, measure in (('ranks', by_ranks), ('given', by_given)):
             light = instance.weight(by=by)
-            self.assertEqual((light.total, light.matching.partners()), best_of(measure))
+            self.assertEqual((light.total, dict(light.matching.pairs)), best_of(measure))
             self.assertEqual(light.value, light.cut)
             self.assertEqual(light.value, sum(it.amount for it in light.flow if it.source == 'S'))
             first = measure({p: it.reviewer for p, it in light.first.items()})
-            self.assertEqual(first + sum(light.rotations[it - 1].gain for it in light.taken), light.total)
+            self.assertEqual(first + sum(light.gains[it - 1] for it in light.taken), light.total)
+            self.assertIsNone(light.second)
 
     def compare_verdict(self, instance, tried, has, stable):
         """Claims on a matching."""
@@ -242,10 +250,73 @@ class Small(unittest.TestCase):
             if not verdict:
                 self.assertEqual((verdict.reason, verdict.line_text), ('NotBest' if right else 'Blocked', 'end'))
                 self.assertEqual(verdict.blocking is None, right)
+                told = re.fullmatch(r"the matching is stable, but in the \w+' best (.*) is with (.*), and not with (.*)",
+                                    verdict.sentence)
+                self.assertEqual(bool(told), right)
+                if told:
+                    p, r, held = told.groups()
+                    self.assertEqual((stable[ranks][p], has[p]), (r, held))
+
+    @asks
+    def test_sentences(self):
+        """The first pair that can't be held, and why."""
+        seen = set()
+        for seed in range(300):
+            lists, rows, capacities = drawn(seed)
+            instance = Instance.marriage(lists, rows) if capacities is None else Instance.hospitals(lists, rows, capacities)
+            draw = random.Random(-seed)
+            given = {p: draw.choice([*rows, *lists[p], None]) for p in lists}
+            told, held = None, {it: [] for it in rows}
+            for p, r in given.items():
+                if r is not None and not told:
+                    if r not in lists[p]:
+                        told = f"{p} can't be with {r}, since {p} doesn't list {r}"
+                    elif p not in rows[r]:
+                        told = f"{p} can't be with {r}, since {r} doesn't list {p}"
+                    elif len(held[r]) >= instance.capacities[r]:
+                        full = 'full ' if len(held[r]) > 1 else ''
+                        told = f"{p} can't be with {r}, since {r} is {full}with {' and '.join(held[r])}" if held[r] else \
+                            f"{p} can't be with {r}, since {r} has no place"
+                    held[r].append(p)
+            for claim in ('stable', 'proposers', 'reviewers'):
+                verdict = instance.check_matching(given, claim)
+                self.assertEqual(verdict.reason == 'NotAMatching', told is not None)
+                if told:
+                    self.assertEqual((verdict.sentence, verdict.blocking), (told, None), seed)
+            if told:
+                seen.add(re.sub('.*(doesn\'t list|is with|full|no place).*', r'\1', told))
+                with self.assertRaises(NotStable) as caught:
+                    instance.meet(instance.solve(), given)
+                self.assertEqual(caught.exception.sentence, 'the right matching isn\'t stable: ' + told)
+        self.assertEqual(seen, {'doesn\'t list', 'is with', 'full', 'no place'})
+
+    @asks
+    def test_numbers(self):
+        """Lists of lists, and names that are numbers and tuples."""
+        for seed in range(30):
+            instance = Instance.make('random', 8, seed)
+            p, r = list(instance.proposers), list(instance.reviewers)
+            numbered = Instance.marriage([[r.index(it) for it in row] for row in instance.proposers.values()],
+                                         [[p.index(it) for it in row] for row in instance.reviewers.values()])
+            self.assertEqual([it.ranks for it in numbered.list()], [it.ranks for it in instance.list()])
+            self.assertEqual(numbered.solve().partners(), {p.index(a): r.index(b) for a, b in instance.solve().pairs})
+        named = Instance.marriage({1: [('x', 1), 1.5], '1': [('x', 1)], (1, 2): []}, {('x', 1): ['1', 1], 1.5: [1]})
+        self.assertEqual(list(named.proposer_names.values()), ['p1', '1', '1_2'])
+        self.assertEqual(list(named.reviewer_names.values()), ['x_1', '1.5'])
+        self.assertEqual(named.solve().partners(), {1: 1.5, '1': ('x', 1), (1, 2): None})
+        self.assertTrue(named.check_matching(named.solve(), 'proposers'))
+        self.assertEqual(named.check_matching({1: ('x', 1)}).blocking, ('1', ('x', 1)))
+        beds = Instance.hospitals([[0], [0], [0]], [[2, 1, 0]], [2], weights={(2, 0): 5}, forced=[(1, 0)])
+        self.assertEqual((beds.solve().places(), beds.weight('given').total), ({0: (1, 2)}, 5))
 
 
 class Rooms(unittest.TestCase):
     """Roommates, 80 instances."""
+
+    @staticmethod
+    def held(matching):
+        """The partner of each person that has one."""
+        return {it: other for it, other in matching.partners().items() if other is not None}
 
     @staticmethod
     def couplings(persons, lists):
@@ -283,14 +354,16 @@ class Rooms(unittest.TestCase):
                 stable = [has for has in every if not self.blocking(has, lists)]
                 listed = list(instance.list())
                 self.assertEqual([it.ranks for it in listed], sorted(it.ranks for it in listed))
-                self.assertEqual(sorted(sorted(it.partners().items()) for it in listed), sorted(sorted(it.items()) for it in stable))
+                self.assertEqual(sorted(sorted(self.held(it).items()) for it in listed),
+                                 sorted(sorted(it.items()) for it in stable))
                 try:
                     found = instance.solve()
                     self.assertIsInstance(found, Couples)
-                    self.assertIn(found.partners(), stable)
+                    self.assertIn(self.held(found), stable)
                     self.assertTrue(instance.check(found))
-                    self.assertEqual(found.ranks, tuple(lists[it].index(found.partners()[it]) + 1 if it in found.partners()
-                                                        else len(lists[it]) + 1 for it in persons))
+                    self.assertEqual(list(found.partners()), persons)
+                    self.assertEqual(found.ranks, tuple(lists[it].index(other) + 1 if other is not None else len(lists[it]) + 1
+                                                        for it, other in found.partners().items()))
                     self.assertEqual(instance.rest().out, ())
                 except NoMatching as fault:
                     self.assertEqual(stable, [])
@@ -301,7 +374,7 @@ class Rooms(unittest.TestCase):
                     self.assertTrue(instance.check(fault))
                     without += 1
                 rest = instance.rest()
-                has = rest.matching.partners()
+                has = self.held(rest.matching)
                 self.assertIn(has, every)
                 self.assertFalse(any({*pair} & {*rest.out} == set() for pair in self.blocking(has, lists)))
                 self.assertFalse({*rest.out} & {*has})
@@ -334,11 +407,11 @@ class Examples(unittest.TestCase):
                            ('solve_reviewers', lambda it: it.solve('reviewers')), ('weight_given', lambda it: it.weight('given'))):
             for file in sorted(os.listdir(os.path.join(TOP, 'examples'))):
                 if file.endswith('.' + name):
-                    instance = Instance.from_text(example(file.split('.')[0] + '.txt'))
-                    answer = example(file)
-                    if answer.startswith('answer') and '\nnone\n' not in answer and instance.kind != 'roommates':
+                    given, answer = example(file.split('.')[0] + '.txt'), example(file)
+                    if answer.startswith('answer') and '\nnone\n' not in answer and 'roommates' not in given:
+                        instance = Instance.from_text(given)
                         self.assertEqual(text(instance).text, answer, file)
-                        self.assertEqual(Instance.from_text(instance.to_text()).to_text(), instance.to_text())
+                        self.assertEqual(Instance.from_text(instance.to_text()), instance)
 
     @asks
     def test_listing(self):
@@ -357,7 +430,21 @@ class Examples(unittest.TestCase):
     def test_flow(self):
         light = Instance.from_text(example('weighed.txt')).weight(by='given')
         self.assertEqual((light.flow, light.taken), ((('S', 2, 4), (1, 'T', 4), (2, 1, 4)), (1, 2)))
-        self.assertEqual([it.gain for it in light.rotations], [4, -14])
+        self.assertEqual((light.gains, light.total, light.value, light.cut, light.second), ((4, -14), -10, 4, 4, None))
+
+    @asks
+    def test_two_levels(self):
+        """The answer that docs/FORMATS.md shows."""
+        light = Instance.from_text(example('two_levels.txt')).weight(by='given')
+        self.assertEqual((light.total, light.gains, light.flow, light.value, light.cut),
+                         (0, (4, -4), (('S', 2, 4), (1, 'T', 4), (2, 1, 4)), 4, 4))
+        second = light.second
+        self.assertEqual((second.total, second.gains, second.flow, second.value, second.cut),
+                         (-2, (1, -3), (('S', 2, 1), (1, 'T', 1), (2, 1, 1)), 1, 1))
+        given = Instance.from_text(example('three_cycle.txt'))
+        made = Instance.marriage(given.proposers, given.reviewers, weights={('m1', 'b'): (4, 1), ('m2', 'a'): (0, -2)})
+        self.assertEqual(made.weight('given').second, second)
+        self.assertEqual(made, Instance.from_text(example('two_levels.txt')))
 
     @asks
     def test_refusals(self):
@@ -394,12 +481,46 @@ class Examples(unittest.TestCase):
         self.assertEqual(refused.exception.reason, 'BadAnswer')
 
     @asks
+    def test_answers(self):
+        """The stored inputs of `check`: where a pair is at fault, it is named, and who blocks."""
+        named = {'blocked': ('m2 and b would both rather have one another', ('m2', 'b')),
+                 'not_a_matching': ('m2 can\'t be with a, since a is with m1', None),
+                 'not_best': ('the matching is stable, but in the proposers\' best m1 is with a, and not with b', None)}
+        paths = glob.glob(os.path.join(TOP, 'examples', 'verdicts', '*.txt'))
+        self.assertEqual(len(paths), len(matchbench.VERDICTS))
+        for path in paths:
+            name = os.path.basename(path)[:-len('.txt')]
+            text = example(os.path.join('verdicts', name + '.txt'))
+            at = re.search(r'^end.*\n', text, re.M).end()
+            verdict = Instance.from_text(text[:at]).check(text[at:])
+            self.assertEqual(verdict.text, example(os.path.join('verdicts', name + '.check')))
+            told = named.get(name, (matchbench.VERDICTS[verdict.reason], None))
+            self.assertEqual((verdict.sentence, verdict.blocking), told, name)
+            self.assertEqual(verdict.line_text, text.split('\n')[verdict.line - 1])
+        two = Instance.marriage(*TWO)
+        for answer, pair in (('answer list limit=1\nvector 1,3\nend\n', ('m2', 'b')),
+                             ('answer regret\nregret 0\nend\n', ('m1', 'a')),
+                             ('answer meet\nleft m1 a\nleft m2 b\nright m1 b\npair m1 a\npair m2 b\nend\n', ('m1', 'a')),
+                             ('answer rotations\nfirst m1 a\nend\n', ('m2', 'b')),
+                             ('answer reduced\nfirst m1 a\nfirst m2 b\nlast m2 a\nend\n', ('m1', 'b'))):
+            verdict = two.check(answer)
+            self.assertEqual((verdict.reason, verdict.blocking), ('Blocked', pair), answer)
+
+    @asks
     def test_make(self):
         self.assertEqual(Instance.make('cycle', 3, 1).survey().listed, 3)
         self.assertEqual(Instance.make('rooms', 4, 1).kind, 'roommates')
-        with self.assertRaises(Failed) as caught:
-            Instance.make('square', 3, 1)
-        self.assertEqual(caught.exception.status, 2)
+        shapes = "'random' or 'hospitals' or 'rooms' or 'cycle' or 'copies'"
+        for words, told in ((('square', 3, 1), f"shape is 'square', and not {shapes}"),
+                            (('rooms', 513, 1), 'size is 513, and not from 1 to 512'),
+                            (('copies', 2049, 1), 'size is 2,049, and not from 1 to 2,048'),
+                            (('cycle', 3, -1), 'seed is -1, and not from 0 to 18,446,744,073,709,551,615')):
+            with self.assertRaises(ValueError) as caught:
+                Instance.make(*words)
+            self.assertEqual(str(caught.exception), told)
+        with self.assertRaises(TypeError) as caught:
+            Instance.make('cycle', '3', 1)
+        self.assertEqual(str(caught.exception), "size is '3', and no whole number")
 
     @asks
     def test_graph(self):
@@ -425,7 +546,7 @@ class Names(unittest.TestCase):
         for _ in range(300):
             originals = list({''.join(draw.choice('aB1_.- ,éßДЁ中') for _ in range(draw.randint(0, 4))): 0 for _ in range(9)})
             originals += ['x' * 70, 'x' * 71, 'p1', 'p2_']
-            self.assertEqual(matchbench._sound_names(originals, 'p'), sound_names(originals, 'p'))
+            self.assertEqual(matchbench.sound_names(originals, 'p'), sound_names(originals, 'p'))
 
     def test_text(self):
         instance = Instance.hospitals(
@@ -436,19 +557,47 @@ class Names(unittest.TestCase):
         self.assertEqual(dict(instance.reviewer_names), {'Дом 5': 'r1', 'west': 'west'})
         self.assertEqual(dict(instance.capacities), {'Дом 5': 0, 'west': 2})
         self.assertEqual(repr(instance), '<Instance of hospitals: 2 proposers, 2 reviewers>')
-        again = Instance.from_text(instance.to_text())
-        self.assertEqual(dict(again.proposers), {'Zoe': ('r1', 'west'), 'ann': ()})
-        self.assertEqual((again.kind, dict(again.capacities)), ('hospitals', {'r1': 0, 'west': 2}))
-        self.assertEqual(pickle.loads(pickle.dumps(instance)).to_text(), instance.to_text())
+        again = pickle.loads(pickle.dumps(instance))
+        self.assertEqual((again, again.to_text()), (instance, instance.to_text()))
 
+    @asks
     def test_read(self):
-        text = '# \xe9\n\tstable 1 hospitals\r\nr\tc [ 3 ]:a#b\r\np a : c\r\n end # .\nr d: a\n'
+        """A text keeps its layout, and what stands behind its `end` isn't in the way of an answer."""
+        text = '# \xe9\n\tstable 1 hospitals\r\nr\tc [ 3 ]:a#b\r\np a : c\r\n end # .\n\n# end\n'
         for given in (text, text.encode('latin-1')):
             instance = Instance.from_text(given)
             self.assertEqual((instance.kind, dict(instance.proposers), dict(instance.reviewers), dict(instance.capacities)),
                              ('hospitals', {'a': ('c',)}, {'c': ('a',)}, {'c': 3}))
-        self.assertEqual(matchbench._encoded(Instance.from_text(text.encode('latin-1')).to_text()), text.encode('latin-1'))
+            self.assertTrue(instance.check_matching({'a': 'c'}))
+            self.assertTrue(instance.check(instance.solve()))
+        self.assertEqual(instance.to_text().encode('utf-8', 'surrogateescape'), text.encode('latin-1'))
+        written = Instance.hospitals({'Zoë': ['Дом 5', 'west'], 'ann': []}, {'Дом 5': ['Zoë'], 'west': ['ann', 'Zoë']},
+                                     {'Дом 5': 0, 'west': 2})
+        again = Instance.from_text(written.to_text())
+        self.assertEqual(dict(again.proposers), {'Zoe': ('r1', 'west'), 'ann': ()})
+        self.assertEqual((again.kind, dict(again.capacities)), ('hospitals', {'r1': 0, 'west': 2}))
+        for name in ('master_list', 'in_order', 'second_weights', 'roommates', 'weighed', 'forbidden', 'hospitals'):
+            instance = Instance.from_text(example(name + '.txt'))
+            again = Instance.from_text(example(name + '.txt').replace('\n', '  # .\r\n'))
+            value = Instance.from_json(instance.to_json())
+            self.assertEqual((instance, hash(instance)), (again, hash(again)))
+            self.assertEqual((instance, hash(instance)), (value, hash(value)))
 
+    def test_equal(self):
+        """The same parts, in the same order of agents."""
+        lists, rows, pair = {'a': ['x', 'y'], 'b': ['y']}, {'x': ['a'], 'y': ['b', 'a']}, ('a', 'x')
+        one = Instance.marriage(lists, rows)
+        alike = [(lists, rows, {}), (lists, rows, {'weights': {}, 'forced': []}), (lists, rows, {'order': ['a']})]
+        for p, r, more in alike:
+            self.assertEqual((Instance.marriage(p, r, **more), hash(Instance.marriage(p, r, **more))), (one, hash(one)))
+        others = [(dict(reversed(list(lists.items()))), rows, {}), (lists, {**rows, 'x': []}, {}), (lists, rows, {'order': ['b']}),
+                  (lists, rows, {'weights': {pair: 0}}), (lists, rows, {'forced': [pair]}), (lists, rows, {'forbidden': [pair]})]
+        made = [Instance.marriage(p, r, **more) for p, r, more in others] + [Instance.hospitals(lists, rows, {'x': 1, 'y': 1})]
+        self.assertEqual(len({one, *made}), len(made) + 1)
+        self.assertEqual(Instance.marriage(lists, rows, weights={pair: (5, 0)}), Instance.marriage(lists, rows, weights={pair: 5}))
+        self.assertNotEqual(one, one.to_text())
+
+    @asks
     def test_json(self):
         """The stored instances and those of docs/FORMATS.md: as text, as bytes, and as a value."""
         paths = sorted(glob.glob(os.path.join(TOP, 'examples', '*.json')))
@@ -474,6 +623,7 @@ class Names(unittest.TestCase):
         plain = 'stable 1 marriage\np a: x\nr x:\nend\n'
         for given, wanted in ((two, plain), (two + ', "weights": [], "forced": [], "forbidden": []', plain),
                               (two.replace('"a"', '"\\u0061"'), plain), ('"kind": [1.0, {"kind": -0}], ' + two, plain),
+                              (two.replace('"a"', '"Zo\u00eb"'), plain.replace('p a', 'p Zoe')),
                               (two + ', "order": []', 'stable 2 marriage\np a: x\nr x:\norder\nend\n'),
                               (two + ', "weights": [["a", "x", 1000000000, -1000000000]]',
                                'stable 2 marriage\np a: x\nr x:\nweight a x 1000000000 -1000000000\nend\n')):
@@ -485,7 +635,7 @@ class Names(unittest.TestCase):
 
     def test_json_given(self):
         """`to_json` takes one whole line of the program."""
-        instance = Instance.from_text(example('two_by_two.txt'))
+        instance = Instance.marriage(*TWO)
         with tempfile.TemporaryDirectory() as folder:
             path = os.path.join(folder, 'program')
             for written, ended, is_whole in (('{}\\n', 0, True), ('{}', 0, False), ('', 0, False), ('', 4, False)):
@@ -518,7 +668,27 @@ class Names(unittest.TestCase):
                 (lambda: Instance.marriage({'ann': ['art', 'art']}, r), ValueError, "'art' stands twice on the list of 'ann'"),
                 (lambda: Instance.marriage({'ann': 'art'}, r), TypeError,
                  "the list of 'ann' is 'art', and not a list of names, best first"),
-                (lambda: Instance.marriage({1: []}, r), TypeError, 'the name 1 is no string'),
+                (lambda: Instance.marriage({None: []}, r), TypeError, 'None is no name: it stands for being alone'),
+                (lambda: Instance.marriage({'ann': {'art': 1}}, r), TypeError,
+                 "the list of 'ann' is {'art': 1}, and not a list of names, best first"),
+                (lambda: Instance.marriage('ann', r), TypeError, "the proposers are 'ann', and not a dict or a list"),
+                (lambda: Instance.marriage({'ann': [['art']]}, r), ValueError,
+                 "['art'] in the list of 'ann' is none of the reviewers"),
+                (lambda: Instance.marriage([[0, 2]], [[0], [0]]), ValueError, '2 in the list of 0 is none of the reviewers'),
+                (lambda: Instance.hospitals(p, {'art': ['ann'], 'biology': []}, {'art': -1, 'biology': 1}), ValueError,
+                 "the capacity of 'art' is -1, and not from 0 to 4,096"),
+                (lambda: Instance.hospitals(p, r, {'art': 1, 'biology': 4097}), ValueError,
+                 "the capacity of 'biology' is 4,097, and not from 0 to 4,096"),
+                (lambda: Instance.hospitals(p, r, {'art': 1, 'biology': '2'}), TypeError,
+                 "the capacity of 'biology' is '2', and no whole number"),
+                (lambda: Instance.hospitals(p, r, {'art': 1.5, 'biology': 2}), TypeError,
+                 "the capacity of 'art' is 1.5, and no whole number"),
+                (lambda: Instance.hospitals(p, r, [1]), ValueError, "0 in the capacities is none of the reviewers"),
+                (lambda: Instance.marriage(p, r, weights={('ann', 'art'): 2 * 10 ** 9}), ValueError,
+                 "the weight of ('ann', 'art') is 2,000,000,000, and not from -1,000,000,000 to 1,000,000,000"),
+                (lambda: Instance.marriage(p, r, weights={('ann', 'art'): (1, 2, 3)}), ValueError,
+                 "the weight of ('ann', 'art') is (1, 2, 3), and not one number or two"),
+                (lambda: Instance.marriage(p, r, order=['art']), ValueError, "'art' in the order is none of the proposers"),
                 (lambda: Instance.roommates({'ann': ['ann']}), ValueError, "'ann' stands on the list of 'ann'"),
                 (lambda: Instance.hospitals(p, r, {'art': 2}), ValueError, "'biology' has no capacity"),
                 (lambda: Instance.hospitals(p, r, {'art': 2, 'biology': 1, 'x': 1}), ValueError,
@@ -528,9 +698,11 @@ class Names(unittest.TestCase):
                 (lambda: Instance.marriage(p, r).solve(side='both'), ValueError,
                  "side is 'both', and not 'proposers' or 'reviewers'"),
                 (lambda: Instance.marriage(p, r).weight(by='miles'), ValueError, "by is 'miles', and not 'ranks' or 'given'"),
-                (lambda: Instance.marriage(p, r).list(limit=-1), ValueError, 'the limit -1 is below 0'),
-                (lambda: Instance.marriage(p, r).list(after=[-1]), ValueError, "the ranks [-1] aren't all from 0 to 4,294,967,295"),
-                (lambda: Instance.marriage(p, r).survey(limit=0), ValueError, 'the limit 0 is none from 1 to 1,000,000')):
+                (lambda: Instance.marriage(p, r).list(limit=-1), ValueError,
+                 'limit is -1, and not from 0 to 9,223,372,036,854,775,807'),
+                (lambda: Instance.marriage(p, r).list(after=[-1]), ValueError,
+                 'a rank of `after` is -1, and not from 0 to 4,294,967,295'),
+                (lambda: Instance.marriage(p, r).survey(limit=0), ValueError, 'limit is 0, and not from 1 to 1,000,000')):
             with self.assertRaises(kind) as caught:
                 make()
             self.assertEqual(str(caught.exception), told)
@@ -552,7 +724,7 @@ class Programs(unittest.TestCase):
         folder = tempfile.TemporaryDirectory()
         self.addCleanup(folder.cleanup)
         self.folder = folder.name
-        self.instance = Instance.from_text(example('two_by_two.txt'))
+        self.instance = Instance.marriage(*TWO)
 
     def program(self, script):
         """Puts a script in the place of the program."""
@@ -567,8 +739,9 @@ class Programs(unittest.TestCase):
     def test_rest(self):
         """What is made of a stored answer."""
         self.program(f'cat >/dev/null\ncat "{os.path.join(TOP, "examples", "odd_party.rest")}"\n')
-        found = Instance.from_text(example('odd_party.txt')).rest()
-        self.assertEqual((found.out, found.matching.partners()), (('ann',), {'ben': 'cem', 'cem': 'ben'}))
+        found = Instance.roommates(ODD).rest()
+        self.assertEqual((found.out, found.matching.pairs), (('ann',), (('ben', 'cem'),)))
+        self.assertEqual(found.matching.partners(), {'ann': None, 'ben': 'cem', 'cem': 'ben', 'dan': None})
         self.assertIsInstance(found.matching, Couples)
         self.assertEqual((found.matching.ranks, found.text), ((4, 1, 2, 4), example('odd_party.rest')))
 
@@ -628,7 +801,8 @@ class Programs(unittest.TestCase):
 
     def test_without_reading(self):
         self.program('echo "refused TooLong 0"; exit 1')
-        instance = Instance.from_text('stable 1 marriage\n' + '#' * 1_000_000)
+        instance = Instance.marriage(*TWO)
+        instance._text = 'stable 1 marriage\n' + '#' * 1_000_000
         for ask in (instance.solve, lambda: list(instance.list())):
             with self.assertRaises(Refused) as caught:
                 ask()
@@ -637,14 +811,16 @@ class Programs(unittest.TestCase):
     def test_values(self):
         """Results can be kept, compared and sent to other processes."""
         faults = (Refused('BadLine', 2, 'p a', 'refused BadLine 2\n'), NoMatching('answer regret\nnone\nend\n'), Failed(4, ''),
-                  NotStable(8, 'end', 'refused NotStable 8 left blocks a b\n', 'left', 'blocks', ('a', 'b')))
+                  NotStable(8, 'end', 'refused NotStable 8 left blocks a b\n', 'left', 'blocks', ('a', 'b'), 'so'))
         for fault in faults:
             again = pickle.loads(pickle.dumps(fault))
             self.assertEqual((type(again), str(again), vars(again)), (type(fault), str(fault), vars(fault)))
-        one, other = Matching((('a', 'b'),), (1,), 'x'), Matching((('a', 'b'),), (1,), 'y')
+        one, other = (Matching(it, self.instance, (('m1', 'a'),), (1, 3)) for it in ('x', 'y'))
         self.assertEqual(one, other)
-        self.assertEqual(len({one, other, Matching((), (2,), 'x')}), 2)
+        self.assertEqual(len({one, other, Matching('x', self.instance, (), (3, 3))}), 2)
         self.assertRaises(AttributeError, setattr, one, 'pairs', ())
+        again = pickle.loads(pickle.dumps(one))
+        self.assertEqual((again, again.text, again.instance), (one, 'x', self.instance))
         self.assertEqual(Seat('city', 2), ('city', 2))
 
 
