@@ -87,7 +87,7 @@ def _market(draw: Draw, proposers: int, reviewers: int, places: Optional[Callabl
 
 
 def _opposed(draw: Draw, draft: Draft) -> Draft:
-    """The same with lists on which those that like an agent best are liked least, but for some chance: that makes many rotations."""
+    """The same with lists on which those that like an agent best are liked least, but for chance: that makes many rotations."""
     score = {(p, r): draw.below(1_000_000) for p, row in draft.proposers.items() for r in row}
     for p, row in draft.proposers.items():
         keys = {r: draw.below(100_000) + score[p, r] for r in row}
@@ -290,6 +290,6 @@ def _ring_rooms(draw: Draw, sizes: Sequence[int]) -> Draft:
 
 ROOMS = tuple(name for name, it in SHAPES.items() if it.rooms)
 TWO_SIDED = tuple(name for name, it in SHAPES.items() if not it.rooms and not it.conditions)
-# Shapes and sizes that come to the limits: 524,288 entries on lists, 4,096 agents on a side, a capacity of 4,096, and nearly as many
-# entries on the lists of seats as may be.
-LARGE = (('complete', 512), ('short', 4096), ('one', 1023), ('cycle', 512), ('crowded', 300))
+# Shapes and sizes that come to the limits: 524,288 entries on lists, 4,096 agents on a side, a capacity of 4,096, and nearly as
+# many entries on the lists of seats as may be.
+LARGE = (('complete', 512), ('short', 4096), ('one', 1023), ('cycle', 512), ('crowded', 150))

@@ -34,6 +34,7 @@ class Shrinker:
             self.agents(True)
             self.conditions()
             self.places()
+            self.taken_places()
             self.pairs()
             self.entries()
         if self.draft.kind == 'hospitals' and all(it == 1 for it in self.draft.capacities.values()):
@@ -77,6 +78,15 @@ class Shrinker:
                     less.capacities[name] = count
                     if self.takes(less):
                         break
+
+    def taken_places(self) -> None:
+        """Leaves out a proposer together with a place of a reviewer that lists it, which it may have."""
+        for r in list(self.draft.reviewers if self.draft.kind == 'hospitals' else ()):
+            for p in list(self.draft.reviewers[r]):
+                if self.draft.capacities[r] > 1 and p in self.draft.proposers:
+                    less = self.draft.without([p])
+                    less.capacities[r] -= 1
+                    self.takes(less)
 
     def pairs(self) -> None:
         """Takes pairs off both lists."""

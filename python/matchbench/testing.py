@@ -26,8 +26,8 @@ from ._draft import Draft
 from ._shapes import LARGE, ROOMS, SHAPES, TWO_SIDED, Draw, named
 from ._smaller import MOST_TRIALS, smallest_draft
 
-__all__ = ['Case', 'Draft', 'FIRST_LARGE', 'LARGE', 'ROOMS', 'SHAPES', 'TWO_SIDED', 'case', 'instances', 'made', 'random', 'smallest',
-           'smallest_draft']
+__all__ = ['Case', 'Draft', 'FIRST_LARGE', 'LARGE', 'ROOMS', 'SHAPES', 'TWO_SIDED', 'case', 'instances', 'made', 'random',
+           'smallest', 'smallest_draft']
 
 # From this number on cases are those of LARGE.
 FIRST_LARGE = 1_000_000
@@ -83,9 +83,9 @@ def case(number: int, seed: int = 1, most: int = 8, shapes: Sequence[str] = TWO_
 
 
 def random(count: int, seed: int = 1, most: int = 8, shapes: Sequence[str] = TWO_SIDED) -> Iterator[Instance]:
-    """So many instances of a seed, the same each time: all shapes with two sides in turn, or those that are given, small ones first.
+    """So many instances of a seed, the same each time: all shapes with two sides in turn, or those given, small ones first.
 
-    Most have up to `most` agents on a side, and some shapes have three times as many. With `ROOMS` as shapes these are roommates.
+    Most have up to `most` agents on a side, and some shapes have three times as many. With `ROOMS` as shapes they are roommates.
     """
     for number in range(count):
         yield case(number, seed, most, shapes).instance()
@@ -94,9 +94,9 @@ def random(count: int, seed: int = 1, most: int = 8, shapes: Sequence[str] = TWO
 def smallest(instance: Instance, fails: Callable[[Instance], bool], trials: int = MOST_TRIALS) -> Instance:
     """A smaller instance that fails too, of which no agent, entry, place, weight or condition alone can be left out.
 
-    `fails` says whether an instance fails. It is called at most as often as `trials` says, and not for the instance itself, which is
-    given back where nothing smaller fails. What it raises is raised. To go on with one kind of failure, let it look for that kind
-    alone. Agents keep their names.
+    `fails` says whether an instance fails. It is called at most as often as `trials` says, and not for the instance itself, which
+    is given back where nothing smaller fails. What it raises is raised. To go on with one kind of failure, let it look for that
+    kind alone. Agents keep their names.
     """
     draft, _ = smallest_draft(Draft.of(instance), lambda it: bool(fails(it.instance())), trials)
     return draft.instance()

@@ -1,4 +1,4 @@
-"""`matchbench.testing`: that made instances are what their shapes say and always the same, and what is left of instances that fail."""
+"""`matchbench.testing`: made instances are what their shapes say and always the same, and of those that fail little is left."""
 import hashlib
 import importlib.util
 import os
@@ -29,6 +29,11 @@ def several(shape, sizes=SIZES):
     return [made(shape, size, seed) for size in sizes for seed in range(6)]
 
 
+def entries(instance):
+    """The entries of all proposers."""
+    return {(p, r) for p, row in instance.proposers.items() for r in row}
+
+
 class Same(unittest.TestCase):
     """Always the same instances. That they are those of other machines can only be seen by a sum of all their texts."""
 
@@ -48,8 +53,10 @@ class Same(unittest.TestCase):
         """The order in which Python keeps sets, which differs from run to run, has no part in it."""
         words = 'import sys; sys.path.insert(0, "python"); from matchbench import testing; ' \
             'print("".join(testing.case(it, shapes=tuple(testing.SHAPES)).draft.text() for it in range(200)))'
-        texts = [subprocess.run([sys.executable, '-B', '-c', words], cwd=TOP, env={**os.environ, 'PYTHONHASHSEED': it}, stdout=subprocess.PIPE,
-                                check=True).stdout for it in '12']
+        texts = []
+        for seed in '12':
+            how = {'cwd': TOP, 'env': {**os.environ, 'PYTHONHASHSEED': seed}, 'stdout': subprocess.PIPE, 'check': True}
+            texts.append(subprocess.run([sys.executable, '-B', '-c', words], **how).stdout)
         self.assertEqual(*texts)
 
     def test_cases(self):
@@ -64,8 +71,8 @@ class Same(unittest.TestCase):
         self.assertEqual([it.kind for it in testing.random(3, shapes=testing.ROOMS)], ['roommates'] * 3)
 
     def test_refused(self):
-        for words, told in ((('squares', 3, 1), 'there is no shape \'squares\': complete, '), (('cycles', 3, 1), 'is \'cycle\' meant?'),
-                            (('cycle', 0, 1), 'the size is 0, and not 1 or more')):
+        for words, told in ((('xyz', 3, 1), 'there is no shape \'xyz\': complete, '),
+                            (('cycles', 3, 1), 'is \'cycle\' meant?'), (('cycle', 0, 1), 'the size is 0, and not 1 or more')):
             with self.assertRaises(ValueError) as caught:
                 made(*words)
             self.assertIn(told, str(caught.exception))
@@ -79,17 +86,15 @@ class Shapes(unittest.TestCase):
             self.assertEqual((it.kind, len(it.proposers)), ('marriage', len(it.reviewers)))
             self.assertTrue(all(len(row) == len(it.proposers) for side in (it.proposers, it.reviewers) for row in side.values()))
         self.assertTrue(any(len(row) < len(it.reviewers) for it in several('incomplete', [5]) for row in it.proposers.values()))
-        for shape in ('incomplete', 'crowded', 'hospitals', 'exam', 'lot', 'sparse', 'short', 'roomy', 'blocks', 'zero'):
+        for shape in ('incomplete', 'crowded', 'hospitals', 'exam', 'lot', 'sparse', 'short', 'roomy', 'zero'):
             for it in several(shape):
-                self.assertEqual({(p, r) for p, row in it.proposers.items() for r in row}, {(p, r) for r, row in it.reviewers.items() for p in row}, shape)
-        inert = several('inert', [4])
-        self.assertTrue(all(any(p not in it.reviewers[r] for p, row in it.proposers.items() for r in row) for it in inert if len(it.reviewers) > 2))
-        for it in several('empty'):
+                self.assertEqual(entries(it), {(p, r) for r, row in it.reviewers.items() for p in row}, shape)
+        inert = several('inert', [4, 5])
+        self.assertGreater(sum(any(p not in it.reviewers[r] for p, r in entries(it)) for it in inert), 8)
+        for it in several('empty', [2, 5]):
             self.assertIn((), it.proposers.values())
-            self.assertIn((), it.reviewers.values())
+            self.assertTrue(len(it.reviewers) == 1 or () in it.reviewers.values())
         for it in several('exam', [6]):
-            order = sorted(it.proposers, key=lambda p, it=it: [row.index(p) if p in row else -1 for row in it.reviewers.values()])
-            self.assertEqual(set(order), set(it.proposers))
             for one in it.reviewers.values():
                 for other in it.reviewers.values():
                     both = [p for p in one if p in other]
@@ -103,7 +108,7 @@ class Shapes(unittest.TestCase):
         self.assertGreater(sum(0 in it.capacities.values() for it in several('zero')), 30)
         self.assertTrue(all(sum(it.capacities.values()) >= len(it.proposers) for it in several('roomy')))
         self.assertTrue(all(not it.proposers or not it.reviewers or len(it.proposers) == 1 for it in several('nobody')))
-        self.assertGreater(sum(bool(set(it.proposers) & set(it.reviewers)) for it in several('names', [5, 6])), 8)
+        self.assertGreater(sum(bool(set(it.proposers) & set(it.reviewers)) for it in several('names', [5, 6])), 6)
 
     @asks
     def test_matchings(self):
@@ -113,8 +118,9 @@ class Shapes(unittest.TestCase):
             self.assertEqual(made('blocks', size, 1).survey().listed, 2 ** ((size + 1) // 2))
             self.assertGreaterEqual(sum(1 for _ in made('rings', size, 1).list()), 2 ** max(1, size // 3))
             self.assertRaises(NoMatching, made('odd', size, 1).solve)
-        self.assertGreater(sum(len(it.rotations().rotations) > 2 for it in several('opposed', [6, 7])), 9)
-        self.assertGreater(sum(it.survey().listed > 1 for it in several('hospitals', [4, 5, 6])), 12)
+        for shape in ('opposed', 'hospitals'):
+            self.assertGreater(sum(it.survey().listed > 1 for it in several(shape, [6, 7, 8])), 12)
+        self.assertGreater(sum(len(it.rotations().rotations) > 3 for it in several('opposed', [7, 8])), 6)
 
     @asks
     def test_conditions(self):
@@ -137,19 +143,20 @@ class Shapes(unittest.TestCase):
 class Drafts(unittest.TestCase):
     def test_text(self):
         """All that an instance may have, by the names of the text; master lists are written out."""
-        text = ('stable 2 hospitals\nmaster m: a b\np a: [n]\n', 'stable 2 hospitals\nmaster n: x y\nmaster m: a b\np a: [n]\np b: y\nr x [2]: [m]\n'
-                'r y: b # one\nweight a x 3 -4\nweight b y 1\nforce a x\nforbid b y\norder b\nend\nleft a x\n')[1]
-        draft = Draft.of(Instance.from_text(text))
-        self.assertEqual(draft.text(), 'stable 2 hospitals\np a: x y\np b: y\nr x [2]: a b\nr y [1]: b\nweight a x 3 -4\nweight b y 1\nforce a x\n'
-                         'forbid b y\norder b\nend\n')
+        behind = 'weight a x 3 -4\nweight b y 1\nforce a x\nforbid b y\norder b\nend\n'
+        front = 'stable 2 hospitals\nmaster n: x y\nmaster m: a b\np a: [n]\np b: y\nr x [2]: [m]\nr y: b # one\n'
+        draft = Draft.of(Instance.from_text(front + behind + 'left a x\n'))
+        self.assertEqual(draft.text(), 'stable 2 hospitals\np a: x y\np b: y\nr x [2]: a b\nr y [1]: b\n' + behind)
         self.assertEqual(Instance.from_json(draft.json()).to_text(), draft.text())
         less = draft.without(['b'])
-        self.assertEqual(less.text(), 'stable 2 hospitals\np a: x y\nr x [2]: a\nr y [1]:\nweight a x 3 -4\nforce a x\norder\nend\n')
+        self.assertEqual(less.text(), 'stable 2 hospitals\np a: x y\nr x [2]: a\nr y [1]:\nweight a x 3 -4\nforce a x\norder\n'
+                         'end\n')
         self.assertEqual(draft.without(['x'], True).text(),
                          'stable 2 hospitals\np a: y\np b: y\nr y [1]: b\nweight b y 1\nforbid b y\norder b\nend\n')
 
     def test_names(self):
-        instance = Instance.hospitals({'Zoë': ['Дом 5'], 'ann': ['Дом 5', 'x']}, {'Дом 5': ['ann', 'Zoë'], 'x': ['ann']}, {'Дом 5': 2, 'x': 1})
+        lists, rows = {'Zoë': ['Дом 5'], 'ann': ['Дом 5', 'x']}, {'Дом 5': ['ann', 'Zoë'], 'x': ['ann']}
+        instance = Instance.hospitals(lists, rows, {'Дом 5': 2, 'x': 1})
         again = Draft.of(instance).instance()
         self.assertEqual((again.to_text(), dict(again.proposers), dict(again.capacities)),
                          (instance.to_text(), dict(instance.proposers), dict(instance.capacities)))
@@ -171,7 +178,8 @@ class Smallest(unittest.TestCase):
         for seed in range(5):
             instance = made('crowded', 4, seed)
             less = smallest(instance, two_choices)
-            self.assertEqual((less.kind, list(map(len, less.proposers.values())), list(map(len, less.reviewers.values()))), ('hospitals', [2], [0, 0]))
+            lengths = [list(map(len, side.values())) for side in (less.proposers, less.reviewers)]
+            self.assertEqual((less.kind, lengths), ('hospitals', [[2], [0, 0]]))
             self.assertEqual(list(less.capacities.values()), [0, 0])
             less = smallest(instance, crowded)
             self.assertEqual((less.kind, len(less.proposers), list(less.capacities.values())), ('marriage', 2, [1]))
@@ -185,13 +193,14 @@ class Smallest(unittest.TestCase):
         self.assertEqual((dict(less.proposers), dict(less.reviewers)), ({'Zoë': ('Дом 5',)}, {'Дом 5': ()}))
 
     def test_conditions(self):
-        instance = Instance.from_text('stable 2 marriage\np a: x y\np b: x y\nr x: a b\nr y: a b\nweight a x 1 2\nweight b y 3\nforce a x\nforbid b y\norder b\n'
-                                      'end\n')
+        instance = Instance.from_text('stable 2 marriage\np a: x y\np b: x y\nr x: a b\nr y: a b\nweight a x 1 2\nweight b y 3\n'
+                                      'force a x\nforbid b y\norder b\nend\n')
         for kept in ('weight b y 3', 'force a x', 'forbid b y', 'order b'):
             less = smallest(instance, lambda it, kept=kept: f'\n{kept}\n' in it.to_text())
             names = kept.split(' ')
             wanted = ['p b:'] if names[0] == 'order' else [f'p {names[1]}:', f'r {names[2]}:']
-            self.assertEqual(less.to_text(), '\n'.join([f'stable {2 if names[0] == "order" else 1} marriage', *wanted, kept, 'end', '']))
+            head = f'stable {2 if names[0] == "order" else 1} marriage'
+            self.assertEqual(less.to_text(), '\n'.join([head, *wanted, kept, 'end', '']))
 
     def test_bounds(self):
         """It asks no more often than it may, gives back what can't be smaller, and lets faults through."""
@@ -239,7 +248,7 @@ class Strategies(unittest.TestCase):
         self.assertEqual((len(least.proposers), len(least.reviewers)), (1, 2))
 
 
-SUM = ''
+SUM = '5b210191fff0cb286230d372f62469645d1eb8097aaab8dd87a7f119c9d88c04'
 
 
 if __name__ == '__main__':

@@ -236,10 +236,12 @@ class Waits(Right):
 
 
 NAMES = {
-    'right': Right, 'best_for_reviewers': BestForReviewers, 'last_admitted': LastAdmitted, 'unlisted': Unlisted, 'crash_at_zero': CrashAtZero,
+    'right': Right, 'best_for_reviewers': BestForReviewers, 'last_admitted': LastAdmitted, 'unlisted': Unlisted,
+    'crash_at_zero': CrashAtZero,
     'one_place': OnePlace, 'one_too_many': OneTooMany, 'first_come': FirstCome, 'forgotten': Forgotten, 'skips_one': SkipsOne,
     'worst_first': WorstFirst, 'false_first': FalseFirst, 'ranks_as_text': RanksAsText, 'names_as_numbers': NamesAsNumbers,
-    'one_table': OneTable, 'rounds_of_proposers': RoundsOfProposers, 'three_choices': ThreeChoices, 'remembers': Remembers, 'waits': Waits,
+    'one_table': OneTable, 'rounds_of_proposers': RoundsOfProposers, 'three_choices': ThreeChoices, 'remembers': Remembers,
+    'waits': Waits,
 }
 GATE = ('best_for_reviewers', 'last_admitted', 'unlisted', 'crash_at_zero')
 MORE = tuple(NAMES)[1 + len(GATE):]

@@ -10,18 +10,20 @@ from .program import pairs_of
 LISTED = 1000
 # The words of each command, and how its answer's file is called.
 TWO_SIDED = {
-    'solve side=proposers': 'solve_proposers', 'solve side=reviewers': 'solve_reviewers', 'reduced': 'reduced', 'rotations': 'rotations',
-    f'list limit={LISTED}': 'list', 'pairs': 'pairs', 'regret': 'regret', 'weight by=ranks': 'weight_ranks', 'weight by=given': 'weight_given',
-    'median': 'median', f'survey limit={LISTED}': 'survey',
+    'solve side=proposers': 'solve_proposers', 'solve side=reviewers': 'solve_reviewers', 'reduced': 'reduced',
+    'rotations': 'rotations',
+    f'list limit={LISTED}': 'list', 'pairs': 'pairs', 'regret': 'regret', 'weight by=ranks': 'weight_ranks',
+    'weight by=given': 'weight_given', 'median': 'median', f'survey limit={LISTED}': 'survey',
 }
 ROOMS = {'solve': 'solve', f'list limit={LISTED}': 'list', 'rest': 'rest'}
 GIVEN = {'meet': 'meet', 'join': 'join', 'route': 'route'}
 
 README = """# Instances with all right answers
 
-{count} made instances of marriages, of hospitals and residents, and of roommates, each with the answers of the program `matchbench`.
-The answers are proved: the program's contract states exactly which text answers each command, and a prover has checked the program's
-code against it. The instances aren't those of any scheme; programs that go wrong are found by their shapes, small ones first.
+{count} made instances of marriages, of hospitals and residents, and of roommates, each with the answers of the program
+`matchbench`. The answers are proved: the program's contract states exactly which text answers each command, and a prover has
+checked the program's code against it. The instances aren't those of any scheme. Their shapes are such as programs go wrong
+with, and small ones come first.
 
 `cases.jsonl` has a line for each instance, an object in JSON:
 
@@ -33,38 +35,39 @@ code against it. The instances aren't those of any scheme; programs that go wron
 | `given` | the text with two stable matchings behind it, or null for roommates |
 | `answers` | for each command its `words`, its `status` and its `text`; `meet`, `join` and `route` answer `given`, all others `text` |
 
-The folder `cases` has the same in files: for each number `instance.json`, `instance.txt`, `given.txt`, and a file for each command. A
-status of 3 means that there is no such matching; the answer then has a line `none`.
+The folder `cases` has the same in files: for each number `instance.json`, `instance.txt`, `given.txt`, and a file for each
+command. A status of 3 means that there is no such matching; the answer then has a line `none`.
 
 ## The instance
 
-`kind` is `marriage`, `hospitals` or `roommates`. `proposers` and `reviewers`, or `persons`, have objects with a `name` and a `list`, best
-first, and hospitals a `capacity`. A name may stand on both sides. An agent may list somebody who doesn't list it back: the two can't be
-together, but the entry keeps its rank. `weights` gives a proposer and a reviewer a weight, 0 if none is written. `forced` and `forbidden`
-pairs bind `list`, `survey`, `regret`, `weight` and `median` alone: only matchings that keep to them are allowed there.
+`kind` is `marriage`, `hospitals` or `roommates`. `proposers` and `reviewers`, or `persons`, have objects with a `name` and a
+`list`, best first, and the reviewers of hospitals have a `capacity`, 0 or more. A name may stand on both sides. An agent may
+list somebody who doesn't list it back: the two can't be together, but the entry keeps its rank. `weights` gives a proposer and
+a reviewer a weight, 0 if none is written. `forced` and `forbidden` pairs bind `list`, `survey`, `regret`, `weight` and `median`
+alone: only matchings that keep to them are allowed there.
 
 ## The answers, and what else is right
 
-Ranks count from 1 and are those of the written lists. A vector has for each proposer, in the order of the instance, the rank of its
-partner, or one more than its list is long if it has none. In `reduced`, `rotations` and `weight` a hospital's name is followed by `/` and
-the number of a seat: a hospital of two places has two seats, of which everybody prefers the first.
+Ranks count from 1 and are those of the written lists. A vector has for each proposer, in the order of the instance, the rank of
+its partner, or one more than its list is long if it has none. In `reduced`, `rotations` and `weight` the name of a hospital is
+followed by `/` and the number of a seat: a hospital of two places has two seats, of which everybody prefers the first.
 
 | Answer | Compare |
 |---|---|
 | `solve side=proposers`, `solve side=reviewers` | the pairs: exactly one matching is right |
-| `solve` of roommates | whether there is a matching. Any vector of `list` is right; of a partition into parties, only the odd ones are the same in all |
+| `solve` of roommates | whether there is a matching. Any vector of `list` is right. Of the parties only the odd ones are the same in all partitions |
 | `list` | all vectors: they are all stable matchings, up to {listed:,}, and a last line `more` if there are others |
 | `pairs` | the pairs, as a set; an `all` line has a pair of all stable matchings |
-| `reduced` | the lists, if your program reduces them to what lies between the first and the last partner on both sides |
-| `rotations` | the rotations, as sets of pairs that may begin with any pair. Their order, and needs that follow from others, may differ |
-| `regret` | the regret. Any vector of `list` with it is right; this one is best for all proposers |
-| `weight by=ranks`, `weight by=given` | the total. Any vector of `list` with it is right; this one is best for all proposers. The flow shows that none is lighter, and may differ |
-| `median` | the pairs: of an even number of matchings it takes the better one of the two in the middle |
+| `reduced` | the lists, if your program cuts lists to what lies between the first and the last partner on both sides |
+| `rotations` | the rotations, as sets of pairs. Their order, and needs that follow from others, may differ |
+| `regret` | the regret. Any vector of `list` with it is right; this matching is the best of them for all proposers |
+| `weight by=ranks`, `weight by=given` | the total. Any vector of `list` with it is right; this matching is the best of them for all proposers. The flow shows that none is lighter, and may differ |
+| `median` | the pairs. Of an even number of partners it takes the better one of the two in the middle |
 | `meet`, `join` | the pairs: each proposer has the better, or the worse, of both partners |
 | `route` | the rotations, as sets; their numbers are those of `rotations` |
 | `survey` | the figures, over the vectors of `list` |
 | `rest` | how many are left out. Who is left out of an odd party, and how the others are matched, may differ |
-"""
+"""  # noqa: E501
 
 
 def write_corpus(program, options, cases):
@@ -88,10 +91,11 @@ def value_of(program, case):
     text, given = draft.text(), None
     answers = [answer_of(program, words, text) for words in (ROOMS if draft.rooms else TWO_SIDED)]
     if not draft.rooms:
-        given = text + ''.join(f'{word} {p} {r}\n' for word, pairs in zip(('left', 'right'), two_of(draft, answers)) for p, r in pairs) + 'end\n'
+        both = zip(('left', 'right'), two_of(draft, answers))
+        given = text + ''.join(f'{word} {p} {r}\n' for word, pairs in both for p, r in pairs) + 'end\n'
         answers += [answer_of(program, words, given) for words in GIVEN]
-    return {'number': case.number, 'shape': case.shape, 'size': case.size, 'seed': case.seed, 'instance': json.loads(draft.json()), 'text': text,
-            'given': given, 'answers': answers}
+    return {'number': case.number, 'shape': case.shape, 'size': case.size, 'seed': case.seed,
+            'instance': json.loads(draft.json()), 'text': text, 'given': given, 'answers': answers}
 
 
 def answer_of(program, words, text):
@@ -101,7 +105,7 @@ def answer_of(program, words, text):
 
 
 def two_of(draft, answers):
-    """The pairs of two stable matchings: two of which neither is better for all proposers if there are such, else the best of each side."""
+    """The pairs of two stable matchings: two of which neither is better for all proposers, or else the best of each side."""
     written = {it['words']: it['text'] for it in answers}
     lines = [it.split(' ')[1] for it in written[f'list limit={LISTED}'].split('\n') if it.startswith('vector ')]
     vectors = [tuple(map(int, it.split(','))) for it in lines[:100] if it != '-']

@@ -40,8 +40,8 @@ class Report:
         """What is told of a kind of failure, in lines."""
         case, result = kind.first.case, kind.result
         times = 'once' if len(kind.numbers) == 1 else f'{len(kind.numbers):,} times'
-        lines = [f'{result.kind}, {result.reason}: {times}, first in case {case.number} '
-                 f'(shape {case.shape}, size {case.size}). A least instance, after {kind.trials:,} trial{"" if kind.trials == 1 else "s"}:', '']
+        lines = [f'{result.kind}, {result.reason}: {times}, first in case {case.number} (shape {case.shape}, size {case.size}). '
+                 f'A least instance, after {kind.trials:,} trial{"" if kind.trials == 1 else "s"}:', '']
         text = kind.least.text().rstrip('\n').split('\n')
         more = [f'... and {len(text) - MOST_LINES:,} more lines'] if len(text) > MOST_LINES else []
         lines += [f'    {it}' for it in text[:MOST_LINES] + more] + ['']
@@ -50,8 +50,8 @@ class Report:
         if result.kind == 'wrong':
             lines += told_as('right is', [shown_pairs(self.trial.judge.right(kind.least))])
         if not kind.alone:
-            lines += told_as('but', ['where it sees this instance alone, the solver doesn\'t fail so. Does it keep something from one instance',
-                                     'to the next, or depend on chance?'])
+            lines += told_as('but', ['where it sees this instance alone, the solver doesn\'t fail so. Does it keep something from',
+                                     'one instance to the next, or depend on chance?'])
         return lines + told_as('try it again', [self.again(kind)])
 
     def answer(self, result):
@@ -80,25 +80,33 @@ class Report:
         lines = [self.head()]
         for kind in self.kinds:
             lines += ['', *self.told(kind)]
-        counts = {shape: (sum(it.values()) - it[RIGHT], sum(it.values())) for shape, it in self.trial.shapes.items()}
-        shapes = wrapped('By shape, failed of all: ', [f'{shape} {failed}/{total}' for shape, (failed, total) in counts.items()])
+        shapes = wrapped('By shape, failed of all: ', [f'{shape} {failed}/{total}' for shape, failed, total in self.by_shape()])
         return '\n'.join([*lines, '', *self.table(), '', *shapes, ''])
 
     def value(self):
         """All of it, as a value in JSON."""
-        judge = self.trial.judge
+        trial = self.trial
         return {
-            'seed': self.options.seed, 'size': self.options.size, 'claim': judge.claim, 'command': self.options.command,
-            'instances': sum(self.trial.counts.values()), 'counts': {it: self.trial.counts[it] for it in KINDS},
-            'failures': [{
-                'kind': it.result.kind, 'reason': it.result.reason, 'cases': it.numbers, 'shape': it.first.case.shape,
-                'size': it.first.case.size, 'least': json.loads(it.least.json()), 'text': it.least.text(), 'answer': it.result.written,
-                'pairs': it.result.pairs, 'wrong': self.explained(it), 'again': self.again(it), 'folder': folder_of(it), 'fails_alone': it.alone,
-                'right': judge.right(it.least) if it.result.kind == 'wrong' else None,
-            } for it in self.kinds],
-            'tried': [{'feature': it, 'instances': self.trial.had[it], 'failed': self.trial.failed[it]} for it in self.rows],
-            'shapes': {shape: {'instances': sum(it.values()), 'failed': sum(it.values()) - it[RIGHT]} for shape, it in self.trial.shapes.items()},
+            'seed': self.options.seed, 'size': self.options.size, 'claim': trial.judge.claim, 'command': self.options.command,
+            'instances': sum(trial.counts.values()), 'counts': {it: trial.counts[it] for it in KINDS},
+            'failures': [self.failure(it) for it in self.kinds],
+            'tried': [{'feature': it, 'instances': trial.had[it], 'failed': trial.failed[it]} for it in self.rows],
+            'shapes': {shape: {'instances': total, 'failed': failed} for shape, failed, total in self.by_shape()},
         }
+
+    def failure(self, kind):
+        """A kind of failure, as a value in JSON."""
+        case, result = kind.first.case, kind.result
+        return {
+            'kind': result.kind, 'reason': result.reason, 'cases': kind.numbers, 'shape': case.shape, 'size': case.size,
+            'least': json.loads(kind.least.json()), 'text': kind.least.text(), 'answer': result.written, 'pairs': result.pairs,
+            'wrong': self.explained(kind), 'right': self.trial.judge.right(kind.least) if result.kind == 'wrong' else None,
+            'again': self.again(kind), 'folder': folder_of(kind), 'fails_alone': kind.alone,
+        }
+
+    def by_shape(self):
+        """How many instances of each shape failed, and of how many."""
+        return [(shape, sum(it.values()) - it[RIGHT], sum(it.values())) for shape, it in self.trial.shapes.items()]
 
     def junit(self):
         """One test for each case, as build servers read it."""
@@ -124,25 +132,27 @@ class Report:
     def write(self, folder):
         """Writes the folder: the report in three forms, and a folder for each kind of failure."""
         os.makedirs(folder, exist_ok=True)
-        for name, text in (('report.txt', self.text()), ('report.json', json.dumps(self.value(), indent=1) + '\n'), ('junit.xml', self.junit())):
-            put(folder, name, text)
+        put(folder, 'report.txt', self.text())
+        put(folder, 'report.json', json.dumps(self.value(), indent=1) + '\n')
+        put(folder, 'junit.xml', self.junit())
         for kind in self.kinds:
             own = os.path.join(folder, folder_of(kind))
             os.makedirs(own, exist_ok=True)
             first = kind.first.case.draft
             for name, text in (('least.txt', kind.least.text()), ('least.json', kind.least.json()), ('first.txt', first.text()),
-                               ('first.json', first.json()), ('answer', kind.result.written), ('what.txt', '\n'.join(self.told(kind)) + '\n'),
-                               ('both.txt', kind.result.asked)):
-                if text or name != 'both.txt':
-                    put(own, name, text)
+                               ('first.json', first.json()), ('answer', kind.result.written),
+                               ('what.txt', '\n'.join(self.told(kind)) + '\n')):
+                put(own, name, text)
+            if kind.result.asked:
+                put(own, 'both.txt', kind.result.asked)
             self.page(own)
 
     @staticmethod
     def page(folder):
         """Has a page of the least instance made, where the tool for that is there and takes it."""
         if os.path.isfile(EXPLORE):
-            done = subprocess.run([sys.executable, '-B', EXPLORE, os.path.join(folder, 'least.txt')], stdin=subprocess.DEVNULL,
-                                  stdout=subprocess.PIPE, stderr=subprocess.DEVNULL)
+            words = [sys.executable, '-B', EXPLORE, os.path.join(folder, 'least.txt')]
+            done = subprocess.run(words, stdin=subprocess.DEVNULL, stdout=subprocess.PIPE, stderr=subprocess.DEVNULL)
             if done.returncode == 0 and done.stdout:
                 put(folder, 'page.html', done.stdout.decode())
 

@@ -19,14 +19,19 @@ MOST_REASON = 60
 
 
 class Broken(Exception):
-    """Why there is no answer: `kind` is crash, timeout or unreadable, `words` say more, and `reason` is what the words of failures of
-    one kind have in common.
+    """Why there is no answer: `kind` is crash, timeout or unreadable, `words` say more, and `reason` is what the words of
+    failures of one kind have in common.
     """
 
-    def __init__(self, kind, words, written='', said=None):
+    def __init__(self, kind, words, written='', reason=None):
         super().__init__(words)
         self.kind, self.words, self.written = kind, words, written
-        self.reason = VARYING.sub('*', said or words)[:MOST_REASON].strip()
+        self.reason = common(words) if reason is None else reason
+
+
+def common(words):
+    """What words have in common with those of the like failures: nothing of the instance."""
+    return VARYING.sub('*', words)[:MOST_REASON].strip()
 
 
 class Child:
@@ -88,7 +93,7 @@ class Child:
         if status or is_line:
             said = self.said()
             ended = f'signal {-status}' if status < 0 else f'status {status}'
-            raise Broken('crash', f'it ended with {ended}' + (f': {said[:200]}' if said else ''), written, said or ended)
+            raise Broken('crash', f'it ended with {ended}' + (f': {said[:200]}' if said else ''), written, common(said) or ended)
         return written
 
     def said(self):
@@ -148,7 +153,9 @@ class Solver:
 
 
 class LineSolver:
-    """Asks one process for all instances: a line with the instance in JSON, to which a line answers. After a failure, it is started anew."""
+    """Asks one process for all instances: a line with the instance in JSON, to which a line answers. After a failure, another
+    process is started.
+    """
 
     def __init__(self, words, seconds):
         self.words, self.seconds = words, seconds
@@ -184,8 +191,8 @@ class LineSolver:
 def rows_of_table(written):
     """The rows of a table of pairs behind its header row, each with where it stands; None for the one row `none`."""
     try:
-        rows = [(f'row {number}', [it.strip() for it in row] + ['']) for number, row in enumerate(csv.reader(written.splitlines(), strict=True), 1)
-                if any(row)]
+        table = enumerate(csv.reader(written.splitlines(), strict=True), 1)
+        rows = [(f'row {number}', [it.strip() for it in row] + ['']) for number, row in table if any(row)]
     except csv.Error as fault:
         raise ValueError(f'this is no table: {fault}') from None
     if not rows:
@@ -209,7 +216,7 @@ def rows_of_line(line):
         raise ValueError(f'the line is no array of pairs and no object: {shortened(line)}')
     rows = [('', 'proposer', 'partner')]
     for number, it in enumerate(value, 1):
-        if not isinstance(it, (list, tuple)) or len(it) != 2 or not isinstance(it[0], str) or not isinstance(it[1], (str, type(None))):
+        if not (isinstance(it, (list, tuple)) and len(it) == 2 and isinstance(it[0], str) and isinstance(it[1], (str, type(None)))):
             raise ValueError(f'pair {number} has not two names: {shortened(json.dumps(it))}')
         rows.append((f'pair {number}', it[0], it[1] or ''))
     return rows
@@ -222,9 +229,11 @@ def shortened(text):
 
 def put_files(draft, folder):
     """The instance in a folder: instance.txt, instance.json, and tables with a row for each agent."""
-    tables = [('persons.csv' if draft.rooms else 'proposers.csv', ['name'], [[name, *row] for name, row in draft.proposers.items()])]
+    rows = [[name, *row] for name, row in draft.proposers.items()]
+    tables = [('persons.csv' if draft.rooms else 'proposers.csv', ['name'], rows)]
     if not draft.rooms:
-        tables.append(('reviewers.csv', ['name', 'capacity'], [[name, draft.capacities[name], *row] for name, row in draft.reviewers.items()]))
+        rows = [[name, draft.capacities[name], *row] for name, row in draft.reviewers.items()]
+        tables.append(('reviewers.csv', ['name', 'capacity'], rows))
     for name, text in (('instance.txt', draft.text()), ('instance.json', draft.json())):
         with open(os.path.join(folder, name), 'w', encoding='ascii') as file:
             file.write(text)

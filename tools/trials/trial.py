@@ -56,8 +56,8 @@ class Trial:
         return Tried(case, self.result(case.draft), features(self.judge.program, case.draft))
 
     def run(self, make, numbers, at_first, tell):
-        """Tries the cases of some numbers, in their order, and shrinks the first failure of each kind. With `at_first` it stops at the
-        first failure.
+        """Tries the cases of some numbers, in their order, and shrinks the first failure of each kind. With `at_first` it stops at
+        the first failure.
         """
         with concurrent.futures.ThreadPoolExecutor(self.jobs) as pool:
             try:

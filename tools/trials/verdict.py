@@ -13,8 +13,8 @@ CLAIMS = ('proposers', 'reviewers', 'stable', 'regret', 'weight-ranks', 'weight-
 RIGHT = 'right'
 SHOWN = 5
 
-# How an instance was answered: a kind of failure or RIGHT, a reason that tells failures of a kind apart, what is wrong in words, what
-# the solver wrote, its pairs where it could be read, and the verdict of `check` with what it was asked.
+# How an instance was answered: a kind of failure or RIGHT, a reason that tells failures of a kind apart, what is wrong in words,
+# what the solver wrote, its pairs where it could be read, and the verdict of `check` with what it was asked.
 Result = collections.namedtuple('Result', 'kind reason words written pairs asked verdict')
 
 
@@ -105,8 +105,9 @@ class Judge:
         """The words to which the program's answer is right."""
         if draft.rooms:
             return ['solve']
-        return {'proposers': ['solve', 'side=proposers'], 'reviewers': ['solve', 'side=reviewers'], 'weight-ranks': ['weight', 'by=ranks'],
-                'weight-given': ['weight', 'by=given']}.get(self.claim, ['regret'])
+        words = {'proposers': 'solve side=proposers', 'reviewers': 'solve side=reviewers', 'weight-ranks': 'weight by=ranks',
+                 'weight-given': 'weight by=given'}
+        return words.get(self.claim, 'regret').split(' ')
 
     def right(self, draft):
         """A right answer, which for some claims isn't the only one: its pairs, or None where there is none."""
@@ -129,8 +130,9 @@ class Judge:
     def others(self, draft, result):
         """Who has another partner than in the best matching."""
         right, has = dict(self.right(draft)), dict(result.pairs)
-        off = [f'{p} has {has.get(p, "nobody")}, and {right.get(p, "nobody")} is right' for p in draft.proposers if right.get(p) != has.get(p)]
-        return [f'  {it}' for it in off[:SHOWN]] + ([f'  and {len(off) - SHOWN} more'] if len(off) > SHOWN else [])
+        off = [p for p in draft.proposers if right.get(p) != has.get(p)]
+        told = [f'  {p} has {has.get(p, "nobody")}, and {right.get(p, "nobody")} is right' for p in off[:SHOWN]]
+        return told + ([f'  and {len(off) - SHOWN} more'] if len(off) > SHOWN else [])
 
 
 def regret_of(draft, pairs):
