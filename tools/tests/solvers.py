@@ -115,7 +115,7 @@ class CrashAtZero(Right):
         super().go_on(p)
 
 
-# Twelve more.
+# More of them.
 
 class OnePlace(Right):
     """Takes each reviewer to have one place."""

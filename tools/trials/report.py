@@ -72,7 +72,7 @@ class Report:
         lines = [f'{"What was tried":{width + 2}}{"instances":>11}{"failed":>8}']
         for name in self.rows:
             had, failed = self.trial.had[name], self.trial.failed[name]
-            lines.append(f'  {name:{width}}{had:11,}{failed or "":>8}' + ('   NEVER TRIED' if not had else ''))
+            lines.append(f'  {name:{width}}{had:11,}{failed or "":>8}'.rstrip() + ('   NEVER TRIED' if not had else ''))
         return lines
 
     def text(self):
