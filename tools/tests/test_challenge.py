@@ -116,7 +116,7 @@ class Solvers(Case):
         """The words that are told fail in the same way."""
         report = self.lines('three_choices', '--cases', '100')[1]
         words = report['failures'][0]['again'].split(' ')
-        self.assertEqual(words[0], 'tools/challenge')
+        self.assertEqual(os.path.basename(words[0]), 'challenge')
         status, written, _ = self.call(*words[1:])
         self.assertEqual(status, 7)
         self.assertTrue(written.startswith('1 instance of seed 1: 0 right, 1 wrong\n'), written)
