@@ -1,0 +1,116 @@
+"""Made instances given to a solver one after the other, and what becomes of them."""
+import collections
+import concurrent.futures
+import queue
+import threading
+
+from .features import features
+from .verdict import RIGHT
+
+# What one case came to: the case, its result and its features.
+Tried = collections.namedtuple('Tried', 'case result features')
+
+
+class Kind:
+    """A kind of failure: its first case, the numbers of all its cases, a least instance with its result, and whether a solver that
+    has seen no other instance fails on that too.
+    """
+
+    def __init__(self, first):
+        self.first, self.numbers = first, []
+        self.least, self.result, self.trials, self.alone = first.case.draft, first.result, 0, True
+
+    @property
+    def key(self):
+        """What all its failures have in common."""
+        return self.first.result.kind, self.first.result.reason
+
+
+class Trial:
+    """The cases that were tried: how many came to what, and which features they had."""
+
+    def __init__(self, judge, solvers, smallest, budget):
+        self.judge, self.smallest, self.budget = judge, smallest, budget
+        self.solvers = queue.Queue()
+        for it in solvers:
+            self.solvers.put(it)
+        self.jobs = len(solvers)
+        self.counts, self.had, self.failed = (collections.Counter() for _ in range(3))
+        self.shapes = collections.defaultdict(collections.Counter)
+        self.kinds = {}
+        self.results = []
+        self.stopped = threading.Event()
+
+    def result(self, draft):
+        """How a solver that is free answers."""
+        solver = self.solvers.get()
+        try:
+            return self.judge.tried(solver, draft)
+        finally:
+            self.solvers.put(solver)
+
+    def one(self, case):
+        """What a case comes to; nothing once it is stopped."""
+        if self.stopped.is_set():
+            return None
+        return Tried(case, self.result(case.draft), features(self.judge.program, case.draft))
+
+    def run(self, make, numbers, at_first, tell):
+        """Tries the cases of some numbers, in their order, and shrinks the first failure of each kind. With `at_first` it stops at
+        the first failure.
+        """
+        with concurrent.futures.ThreadPoolExecutor(self.jobs) as pool:
+            try:
+                for done in pool.map(lambda number: self.one(make(number)), numbers):
+                    self.add(done)
+                    tell(len(self.results), self.counts[RIGHT])
+                    if at_first and done.result.kind != RIGHT:
+                        break
+                self.stopped.set()
+                list(pool.map(self.shrink, self.kinds.values()))
+            finally:
+                self.stopped.set()
+
+    def add(self, done):
+        """Counts a case."""
+        result = done.result
+        self.results.append((done.case.number, done.case.shape, result.kind, result.reason, result.words))
+        self.counts[result.kind] += 1
+        self.shapes[done.case.shape][result.kind] += 1
+        self.had.update(done.features)
+        if result.kind != RIGHT:
+            self.failed.update(done.features)
+            kind = self.kinds.setdefault((result.kind, result.reason), Kind(done))
+            kind.numbers.append(done.case.number)
+
+    def shrink(self, kind):
+        """Finds a least instance that fails in the same way."""
+        def fails(draft):
+            result = self.result(draft)
+            if (result.kind, result.reason) != kind.key:
+                return False
+            kind.result = result
+            return True
+        kind.least, kind.trials = self.smallest(kind.first.case.draft, fails, self.budget)
+        kind.alone = self.fails_alone(kind)
+
+    def fails_alone(self, kind):
+        """Whether the least instance of a kind fails where it is the first that a solver sees."""
+        solver = self.solvers.get()
+        try:
+            own = solver.anew()
+            result = self.judge.tried(own, kind.least)
+            if own is not solver:
+                own.close()
+        finally:
+            self.solvers.put(solver)
+        return (result.kind, result.reason) == kind.key
+
+    def close(self):
+        """Ends all processes of solvers."""
+        while not self.solvers.empty():
+            self.solvers.get().close()
+
+    def status(self):
+        """0 where all is right, 7 where an answer is wrong, and 9 where solvers failed otherwise."""
+        return 0 if set(self.counts) <= {RIGHT} else 7 if self.counts['wrong'] else 9
