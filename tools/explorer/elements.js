@@ -18,7 +18,8 @@ const svg = (name, values, ...inside) => filled(document.createElementNS(SVG, na
 // A picture of a size in pixels, which grows with the type.
 function picture(width, height, label, inside) {
   const pad = 6, w = Math.ceil(width + 2 * pad), h = Math.ceil(height + 2 * pad);
-  const root = svg('svg', { xmlns: SVG, width: w, height: h, viewBox: `${-pad} ${-pad} ${w} ${h}`, role: 'group', 'aria-label': label }, ...inside);
+  const root = svg('svg', { xmlns: SVG, width: w, height: h, viewBox: `${-pad} ${-pad} ${w} ${h}`, role: 'group',
+    'aria-label': label }, ...inside);
   root.style.width = `${w / 15}rem`;
   root.style.height = `${h / 15}rem`;
   return root;
@@ -26,14 +27,18 @@ function picture(width, height, label, inside) {
 
 // The end of a line that shows its way; `id` is one of the page.
 function arrow(id) {
-  return svg('marker', { id, viewBox: '0 0 10 10', refX: 9, refY: 5, markerWidth: 7, markerHeight: 7, orient: 'auto-start-reverse' },
+  return svg('marker', { id, viewBox: '0 0 10 10', refX: 9, refY: 5, markerWidth: 10, markerHeight: 10,
+    markerUnits: 'userSpaceOnUse', orient: 'auto-start-reverse' },
     svg('path', { d: 'M0,0 L10,5 L0,10 z', class: `head ${id}` }));
 }
 
 // How wide a text of the page's type is, in pixels.
 const textWidth = (() => {
   const context = document.createElement('canvas').getContext('2d');
-  return (text, size) => { context.font = `${size}px system-ui, "Segoe UI", Helvetica, Arial, sans-serif`; return context.measureText(text).width; };
+  return (text, size) => {
+    context.font = `${size}px system-ui, "Segoe UI", Helvetica, Arial, sans-serif`;
+    return context.measureText(text).width;
+  };
 })();
 
 // The one line that tells what happened.
@@ -47,7 +52,9 @@ function roving(elements) {
     it.addEventListener('keydown', event => {
       const step = { ArrowRight: 1, ArrowLeft: -1 }[event.key];
       if (step) { event.preventDefault(); elements[(i + step + elements.length) % elements.length].focus(); }
-      if (event.key === 'Enter' || event.key === ' ') { event.preventDefault(); it.dispatchEvent(new MouseEvent('click', { bubbles: true })); }
+      if (event.key !== 'Enter' && event.key !== ' ') return;
+      event.preventDefault();
+      it.dispatchEvent(new MouseEvent('click', { bubbles: true }));
     });
   });
 }
@@ -55,7 +62,11 @@ function roving(elements) {
 // A button that is on or off.
 function toggle(id, change) {
   const it = $(id);
-  it.addEventListener('click', () => { const on = it.getAttribute('aria-pressed') !== 'true'; it.setAttribute('aria-pressed', on); change(on); });
+  it.addEventListener('click', () => {
+    const on = it.getAttribute('aria-pressed') !== 'true';
+    it.setAttribute('aria-pressed', on);
+    change(on);
+  });
 }
 
 // Calls what fills a part of the page when it is first opened.

@@ -5,7 +5,10 @@ const STYLES = ['fill', 'stroke', 'stroke-width', 'stroke-dasharray', 'font-weig
 
 function alone(root) {
   const copy = root.cloneNode(true), from = root.querySelectorAll('*'), to = copy.querySelectorAll('*');
-  from.forEach((it, i) => { const style = getComputedStyle(it); for (const name of STYLES) to[i].style.setProperty(name, style.getPropertyValue(name)); });
+  from.forEach((it, i) => {
+    const style = getComputedStyle(it);
+    for (const name of STYLES) to[i].style.setProperty(name, style.getPropertyValue(name));
+  });
   copy.removeAttribute('style');
   copy.style.setProperty('background', getComputedStyle(document.body).getPropertyValue('--paper'));
   return new XMLSerializer().serializeToString(copy);

@@ -19,39 +19,58 @@ class LatticeView {
     this.few = sets.length <= 40;
     const radius = this.few ? 15 : sets.length > 150 ? 9 : 11, names = sets.map(set => this.shortName(set));
     const tags = this.tags();
-    const wide = this.few ? Math.max(...sets.map((set, i) => 2 * radius + 8 + Math.max(textWidth(names[i], 10.5), textWidth(this.tagText(tags.get(model.key(set))), 10.5)))) : 2 * radius + 6;
-    const it = laidOut(rows.flatMap((row, size) => row.map(() => size)), pairs, () => [wide, 2 * radius], { gap: 8, between: this.few ? 36 : 20 });
-    const middle = n => { const [x, y] = it.at[n]; return [Math.round(this.few ? x - wide / 2 + radius : x), Math.round(y)]; };
-    const lines = [], labels = [];
+    const labels = sets.map((set, i) => Math.max(textWidth(names[i], 10.5),
+      textWidth(this.tagText(tags.get(model.key(set))), 10.5)));
+    const wide = 2 * radius + (this.few ? 26 + Math.max(...labels) : 6);
+    const it = laidOut(rows.flatMap((row, size) => row.map(() => size)), pairs, () => [wide, 2 * radius],
+      { gap: 8, between: this.few ? 36 : 20 });
+    const middle = n => { const [x, y] = it.at[n]; return [Math.round(this.few ? x - wide / 2 + radius + 18 : x), Math.round(y)]; };
+    const lines = [], numbered = [];
     for (const [a, b, j] of pairs) {
       const [x1, y1] = middle(a), [x2, y2] = middle(b), length = Math.hypot(x2 - x1, y2 - y1), cut = (radius + 2) / length;
-      const line = svg('path', { class: 'edge', d: `M${x1 + (x2 - x1) * cut},${y1 + (y2 - y1) * cut} L${x2 - (x2 - x1) * cut},${y2 - (y2 - y1) * cut}` }, svg('title', {}, `rotation ${j + 1}`));
+      const line = svg('path', { class: 'edge',
+        d: `M${x1 + (x2 - x1) * cut},${y1 + (y2 - y1) * cut} L${x2 - (x2 - x1) * cut},${y2 - (y2 - y1) * cut}` },
+        svg('title', {}, `rotation ${j + 1}`));
       this.edges.push({ line, upper: model.key(sets[a]), lower: model.key(sets[b]) });
       lines.push(line);
-      if (this.few) labels.push(svg('text', { class: 'by', x: x1 + (x2 - x1) * 0.5 + (x2 < x1 ? -10 : 5), y: y1 + (y2 - y1) * 0.5 + 4 }, `${j + 1}`));
+      if (this.few) numbered.push(svg('text', { class: 'by', x: x1 + (x2 - x1) * 0.5 + (x2 < x1 ? -10 : 5),
+        y: y1 + (y2 - y1) * 0.5 + 4 }, `${j + 1}`));
     }
     sets.forEach((set, i) => {
       const key = model.key(set), [x, y] = middle(i), own = tags.get(key) || [];
-      const node = svg('g', { class: `matching${model.isAllowed(model.matchingOf(set)) ? '' : ' outlaw'}`, role: 'button', 'data-key': key, transform: `translate(${x},${y})`,
+      const node = svg('g', { class: `matching${model.isAllowed(model.matchingOf(set)) ? '' : ' outlaw'}`, role: 'button',
+        'data-key': key, transform: `translate(${x},${y})`,
         'aria-label': `matching ${i + 1}, of ${setName(model, set)}${own.length ? `, ${own.join(', ')}` : ''}` },
       svg('title', {}, `${i + 1}: ${setName(model, set)}${own.length ? `\n${own.join(', ')}` : ''}`), svg('circle', { r: radius }),
-      svg('text', { class: 'number', 'text-anchor': 'middle', y: radius > 10 ? 4 : 3, 'font-size': radius > 10 ? 11 : 8 }, `${i + 1}`),
+      svg('text', { class: 'number', 'text-anchor': 'middle', y: radius > 10 ? 4 : 3, 'font-size': radius > 10 ? 11 : 8 },
+        `${i + 1}`),
       svg('text', { class: 'letter', 'text-anchor': 'end', x: -radius - 2, y: -4 }));
       if (this.few) {
-        node.append(svg('text', { class: 'tag', x: radius + 4, y: 13 }, names[i]), svg('text', { class: 'tag marked', x: radius + 4, y: -1 }, this.tagText(own)));
+        node.append(svg('text', { class: 'tag', x: radius + 4, y: 13 }, names[i]),
+          svg('text', { class: 'tag marked', x: radius + 4, y: -1 }, this.tagText(own)));
       } else if (own.length) node.append(svg('circle', { class: 'ring', r: radius + 3 }));
       node.addEventListener('click', () => walk.goTo(set, `Matching ${i + 1}, of ${setName(model, set)}.`));
       this.nodes.set(key, { node, number: i + 1 });
     });
     const nodes = [...this.nodes.values()].map(it => it.node);
     roving(nodes);
-    $('lattice').replaceChildren(picture(it.width + (this.few ? 0 : 8), it.height, 'the lattice of the stable matchings', [svg('defs', {}, arrow('route')), ...lines, ...labels, ...nodes]));
-    $('latticeNote').textContent = `${sets.length}; each line one rotation more, downwards${model.conditions ? '; dashed: not allowed' : ''}`;
+    $('lattice').replaceChildren(picture(it.width + (this.few ? 0 : 8), it.height, 'the lattice of the stable matchings',
+      [svg('defs', {}, arrow('route')), ...lines, ...numbered, ...nodes]));
+    const told = [`${sets.length}`, sets.length > 1 ? 'each line one rotation more, downwards' : '',
+      model.conditions ? 'dashed: not allowed' : ''];
+    $('latticeNote').textContent = told.filter(it => it).join('; ');
   }
 
-  shortName(set) { const size = this.model.members(set).length; return size > 6 ? `${size} of ${this.model.k}` : setName(this.model, set); }
+  shortName(set) {
+    const size = this.model.members(set).length;
+    return size > 6 ? `${size} of ${this.model.k}` : setName(this.model, set);
+  }
 
-  tagText(tags) { return (tags || []).map(it => ({ Median: 'median', 'Least regret': 'regret', 'Lightest by ranks': 'ranks', 'Lightest by weights': 'weights' }[it] || '')).filter(it => it).join(', '); }
+  // What stands beside a marked matching; both bests are seen by their places.
+  tagText(tags) {
+    const short = { Median: 'median', 'Least regret': 'regret', 'Lightest by ranks': 'ranks', 'Lightest by weights': 'weights' };
+    return (tags || []).map(it => short[it] || '').filter(it => it).join(', ');
+  }
 
   // The labels of the marked matchings, by the keys of their sets.
   tags() {
@@ -69,7 +88,7 @@ class LatticeView {
   show() {
     const { model, walk } = this, set = walk.closed();
     if (!this.rows) { this.showAround(set); return; }
-    const key = set ? model.key(set) : '', keyOf = of => { const it = of && model.setOf(of); return it ? model.key(it) : ''; };
+    const key = set ? model.key(set) : null, keyOf = of => { const it = of && model.setOf(of); return it ? model.key(it) : null; };
     const a = keyOf(walk.A), b = keyOf(walk.B), route = walk.route() || [], steps = new Map();
     route.slice(1).forEach((step, i) => steps.set(`${model.key(route[i].set)} ${model.key(step.set)}`, i));
     this.nodes.forEach(({ node }, own) => {
@@ -95,10 +114,12 @@ class LatticeView {
     const now = model.figures(model.matchingOf(set));
     const row = (i, taken) => {
       const to = model.figures(model.matchingOf(model.toggled(set, i)));
-      return el('tr', {}, el('td', {}, el('button', { on: () => walk.turn(i) }, `${taken ? '↑ without' : '↓ with'} ${i + 1}`)), el('td', {}, model.sentence(i)),
+      return el('tr', {}, el('td', {}, el('button', { on: () => walk.turn(i) }, `${taken ? '↑ without' : '↓ with'} ${i + 1}`)),
+        el('td', {}, model.sentence(i)),
         el('td', { class: 'n' }, sign(to.proposers - now.proposers)), el('td', { class: 'n' }, sign(to.reviewers - now.reviewers)));
     };
-    const head = el('tr', {}, el('th', {}, 'step'), el('th', {}, 'moves'), el('th', { class: 'n' }, 'proposers’ ranks'), el('th', { class: 'n' }, 'reviewers’ ranks'));
+    const head = el('tr', {}, el('th', {}, 'step'), el('th', {}, 'moves'), el('th', { class: 'n' }, 'proposers’ ranks'),
+      el('th', { class: 'n' }, 'reviewers’ ranks'));
     const taken = model.members(set).length;
     $('lattice').replaceChildren(
       el('p', {}, `${taken} of ${model.k} rotations are taken; ${up.length} can be given back, ${down.length} are ready.`),

@@ -21,11 +21,17 @@ function spread(wanted, gaps, weights) {
 const mean = list => list.reduce((sum, it) => sum + it, 0) / list.length;
 
 // Lays out nodes 0 to n - 1 by their layers; an edge leads to a higher layer. `size(node)` is [width, height]; with `across` layers
-// are columns. An edge over several layers goes by nodes without a size, one in each layer between, so that it crosses no other node.
+// are columns. An edge over several layers goes by nodes without a size, one in each layer between, so that it crosses no other
+// node.
 // Gives `at`, the middle of each node, `paths`, the points of each edge, and the size of the whole.
 function laidOut(layerOf, edges, size, { across = false, gap = 14, between = 34 } = {}) {
   const count = layerOf.length, layers = [], up = [], down = [], chains = [], extent = [];
-  const add = (node, layer) => { while (layers.length <= layer) layers.push([]); layers[layer].push(node); up[node] = []; down[node] = []; };
+  const add = (node, layer) => {
+    while (layers.length <= layer) layers.push([]);
+    layers[layer].push(node);
+    up[node] = [];
+    down[node] = [];
+  };
   const link = (a, b) => { down[a].push(b); up[b].push(a); };
   layerOf.forEach((layer, node) => { add(node, layer); const [w, h] = size(node); extent[node] = across ? [h, w] : [w, h]; });
   let next = count;
@@ -43,35 +49,44 @@ function laidOut(layerOf, edges, size, { across = false, gap = 14, between = 34 
   for (let sweep = 0; sweep < sweeps; sweep++) {
     const near = sweep % 2 ? down : up;
     for (const row of sweep % 2 ? layers.slice().reverse() : layers) {
-      const want = new Map(row.map(node => [node, near[node].length ? mean(near[node].map(it => place.get(it))) : place.get(node)]));
+      const wanted = node => near[node].length ? mean(near[node].map(it => place.get(it))) : place.get(node);
+      const want = new Map(row.map(node => [node, wanted(node)]));
       row.sort((a, b) => want.get(a) - want.get(b));
       note(row);
     }
   }
   // Straight lines: each layer in turn goes to the means of its neighbours' positions.
   const x = new Map();
-  const gaps = row => row.map((node, i) => i ? (extent[row[i - 1]][0] + extent[node][0]) / 2 + gap * (node >= count && row[i - 1] >= count ? 0.5 : 1) : 0);
+  const gapOf = (a, b) => (extent[a][0] + extent[b][0]) / 2 + gap * (a >= count && b >= count ? 0.5 : 1);
+  const gaps = row => row.map((node, i) => i ? gapOf(row[i - 1], node) : 0);
   const weights = row => row.map(node => node >= count ? 4 : 1);
-  layers.forEach(row => spread(row.map((_, i) => (i - row.length / 2) * 60), gaps(row), weights(row)).forEach((it, i) => x.set(row[i], it)));
+  const put = (row, wanted) => spread(wanted, gaps(row), weights(row)).forEach((it, i) => x.set(row[i], it));
+  layers.forEach(row => put(row, row.map((_, i) => (i - row.length / 2) * 60)));
   for (let sweep = 0; sweep < sweeps; sweep++) {
     for (const row of sweep % 2 ? layers.slice().reverse() : layers) {
-      const want = row.map(node => { const all = [...up[node], ...down[node]]; return all.length ? mean(all.map(it => x.get(it))) : x.get(node); });
-      spread(want, gaps(row), weights(row)).forEach((it, i) => x.set(row[i], it));
+      put(row, row.map(node => {
+        const near = [...up[node], ...down[node]];
+        return near.length ? mean(near.map(it => x.get(it))) : x.get(node);
+      }));
     }
   }
   let left = Infinity, right = -Infinity, top = 0;
-  for (const [node, it] of x) { left = Math.min(left, it - extent[node][0] / 2); right = Math.max(right, it + extent[node][0] / 2); }
+  for (const [node, it] of x) {
+    left = Math.min(left, it - extent[node][0] / 2);
+    right = Math.max(right, it + extent[node][0] / 2);
+  }
   const y = new Map();
   layers.forEach(row => {
     const high = Math.max(0, ...row.map(node => extent[node][1]));
     row.forEach(node => y.set(node, top + high / 2));
     top += high + between;
   });
+  const end = (chain, i) => i === 0 ? 1 : i === chain.length - 1 ? -1 : 0;
   const width = count ? right - left : 0, height = Math.max(0, top - between);
   const point = (node, shift) => { const it = [x.get(node) - left, y.get(node) + shift]; return across ? it.reverse() : it; };
   return {
     at: layerOf.map((_, node) => point(node, 0)),
-    paths: chains.map(chain => chain.map((node, i) => point(node, i === 0 ? extent[node][1] / 2 : i === chain.length - 1 ? -extent[node][1] / 2 : 0))),
+    paths: chains.map(chain => chain.map((node, i) => point(node, end(chain, i) * extent[node][1] / 2))),
     width: across ? height : width, height: across ? width : height,
   };
 }

@@ -1,14 +1,24 @@
 // The program's answers, word for word.
 
-// An answer stands in the page as a text, or as parts where lines of it stand in that of `rotations` too: a text, or the numbers of
-// the first such line and of the one behind the last.
+// An answer stands in the page as a text, or shorter: that of `list` as what each vector changes in the one before it, and others
+// as parts, where the numbers of lines of `rotations`, from the first to the one behind the last, stand for these lines.
 function wholeTexts(answers) {
-  const lines = (answers.rotations || '').split('\n'), texts = {};
-  for (const [words, parts] of Object.entries(answers)) {
-    texts[words] = typeof parts === 'string' ? parts
-      : parts.map(it => typeof it === 'string' ? it : lines.slice(it[0], it[1]).join('\n') + '\n').join('');
+  const lines = (answers.rotations || '').split('\n'), whole = {};
+  for (const [words, it] of Object.entries(answers)) {
+    whole[words] = typeof it === 'string' ? it : it.changes ? listText(it)
+      : it.map(part => typeof part === 'string' ? part : `${lines.slice(...part).join('\n')}\n`).join('');
   }
-  return texts;
+  return whole;
+}
+
+// The text of an answer of `list`. The changes are places and ranks in turns.
+function listText({ head, changes, last }) {
+  const ranks = [], vectors = changes.map(own => {
+    for (let i = 0; i < own.length; i += 2) ranks[own[i]] = own[i + 1];
+    return ranks.join(',');
+  });
+  const end = last === 'more' ? `more ${vectors[vectors.length - 1]}` : last;
+  return [head, ...vectors.map(it => `vector ${it}`), end, ''].join('\n');
 }
 
 class Answer {

@@ -1,10 +1,12 @@
 // The lists: the partner, the others of stable matchings, and the rest; by hand their entries are buttons.
 class ListsView {
-  // `sides` has for each table its id, the lists, the names of its agents and of those on their lists, the ranks' holder, and what turns
-  // an agent and an entry into a pair; `stable` says whether a pair is in some stable matching, or is null where that isn't known.
+  // `sides` has for each table its id, the lists, the names of its agents and of those on their lists, the ranks, and what turns an
+  // agent and an entry into a pair; `stable` says whether a pair is in some stable matching, or is null where that isn't known.
   constructor(model, sides, stable, onHand) {
     Object.assign(this, { model, sides, stable, onHand, built: sides.map(() => new Map()) });
-    for (const id of ['onlyMoving', 'onlyStable', 'find']) if ($(id)) $(id).addEventListener('input', () => this.show(...this.last));
+    for (const id of ['onlyMoving', 'onlyStable', 'find']) {
+      if ($(id)) $(id).addEventListener('input', () => this.show(...this.last));
+    }
   }
 
   show(of, blocking, hand) {
@@ -27,18 +29,29 @@ class ListsView {
 
   // A row; it stays as it is where nothing on it changed.
   row(n, side, own, of, blocks, hand, only) {
-    const { model, stable } = this, list = only ? side.lists[own].filter(it => { const [p, r] = side.pair(own, it); return stable(p, r) || of[p] === r; }) : side.lists[own];
-    const states = list.map(it => { const [p, r] = side.pair(own, it); return (of[p] === r ? 1 : 0) + (blocks.has(`${p} ${r}`) || blocks.has(`${r} ${p}`) && side.same ? 2 : 0); });
+    const { model, stable } = this, pairs = side.lists[own].map(it => side.pair(own, it));
+    const list = side.lists[own].filter((_, i) => !only || stable(...pairs[i]) || of[pairs[i][0]] === pairs[i][1]);
+    const isBlocking = (p, r) => blocks.has(`${p} ${r}`) || (side.same && blocks.has(`${r} ${p}`));
+    // For each entry 1 where it is the partner, and 2 where the pair blocks.
+    const states = list.map(it => {
+      const [p, r] = side.pair(own, it);
+      return (of[p] === r ? 1 : 0) + (isBlocking(p, r) ? 2 : 0);
+    });
     const text = `${states.join('')} ${hand} ${only}`, kept = this.built[n].get(own);
     if (kept && kept.text === text) return kept.row;
     const chips = list.map((it, i) => {
-      const [p, r] = side.pair(own, it), acceptable = model.isAcceptable(p, r), isStable = stable && stable(p, r), rank = side.ranks[own].get(it);
-      const words = ['chip', states[i] & 1 ? 'now' : '', isStable ? 'stable' : '', acceptable ? '' : 'inert', states[i] & 2 ? 'blocks' : ''].filter(word => word).join(' ');
-      const said = `${rank}${states[i] & 1 ? ', the partner now' : ''}${!acceptable ? ', doesn’t list back' : !stable ? '' : isStable ? ', in some stable matching' : ', in no stable matching'}${states[i] & 2 ? ', blocks' : ''}`;
-      const name = side.others[it] + (states[i] & 2 ? ' ✗' : '');
-      return hand && acceptable ? el('button', { class: words, title: said, 'aria-pressed': !!(states[i] & 1), on: () => this.onHand(p, r) }, name) : el('span', { class: words, title: said }, name);
+      const [p, r] = side.pair(own, it), acceptable = model.isAcceptable(p, r), isStable = stable && stable(p, r);
+      const isNow = !!(states[i] & 1), isBad = !!(states[i] & 2);
+      const words = ['chip', isNow && 'now', isStable && 'stable', !acceptable && 'inert', isBad && 'blocks'].filter(word => word);
+      const where = !acceptable ? 'doesn’t list back' : !stable ? '' : isStable ? 'in some stable matching'
+        : 'in no stable matching';
+      const told = [side.ranks[own].get(it), isNow && 'the partner now', where, isBad && 'blocks'].filter(word => word);
+      const values = { class: words.join(' '), title: told.join(', ') }, name = side.others[it] + (isBad ? ' ✗' : '');
+      return hand && acceptable ? el('button', { ...values, 'aria-pressed': isNow, on: () => this.onHand(p, r) }, name)
+        : el('span', values, name);
     });
-    const row = el('tr', {}, el('th', { scope: 'row' }, side.names[own] + (side.places ? side.places(own) : '')), el('td', {}, el('div', { class: 'chips' }, ...chips)));
+    const row = el('tr', {}, el('th', { scope: 'row' }, side.names[own] + (side.places ? side.places(own) : '')),
+      el('td', {}, el('div', { class: 'chips' }, ...chips)));
     this.built[n].set(own, { text, row });
     return row;
   }

@@ -24,7 +24,10 @@ class Market {
 
   vectorOf(of) { return this.P.length ? this.P.map((_, p) => this.rankOf(of, p)).join(',') : '-'; }
 
-  ofVector(vector) { return this.P.map((_, p) => { const r = this.pList[p][vector.split(',')[p] - 1]; return r === undefined ? -1 : r; }); }
+  ofVector(vector) {
+    const ranks = vector.split(',');
+    return this.P.map((_, p) => { const r = this.pList[p][ranks[p] - 1]; return r === undefined ? -1 : r; });
+  }
 
   // Of each column agent those who have it.
   holders(of) {
@@ -36,7 +39,9 @@ class Market {
   // What keeps pairs from being a matching.
   breaches(of) {
     const found = [];
-    of.forEach((r, p) => { if (r >= 0 && !this.isAcceptable(p, r)) found.push(`${this.pShown[p]} and ${this.rShown[r]} don’t list each other`); });
+    of.forEach((r, p) => {
+      if (r >= 0 && !this.isAcceptable(p, r)) found.push(`${this.pShown[p]} and ${this.rShown[r]} don’t list each other`);
+    });
     this.holders(of).forEach((ps, r) => {
       if (ps.length > this.cap[r]) found.push(`${this.rShown[r]} has ${ps.length} and takes ${this.cap[r]}`);
     });
@@ -47,7 +52,8 @@ class Market {
   // which is Infinity where a place is free).
   blocking(of) {
     const held = this.holders(of), found = [];
-    const worst = held.map((ps, r) => ps.length < this.cap[r] ? Infinity : Math.max(0, ...ps.map(p => this.rRank[r].get(p) || Infinity)));
+    const worst = held.map((ps, r) => ps.length < this.cap[r] ? Infinity
+      : Math.max(0, ...ps.map(p => this.rRank[r].get(p) || Infinity)));
     this.pList.forEach((list, p) => {
       const own = this.rankOf(of, p);
       for (let rank = 1; rank < own && rank <= list.length; rank++) {

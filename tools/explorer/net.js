@@ -21,7 +21,8 @@ class Net {
     const unbounded = (a, b) => this.rooms.set(`${a} ${b}`, Infinity);
     this.model.needs.forEach((needs, i) => needs.forEach(j => unbounded(i, j)));
     const moving = (p, does) => this.model.moves.findIndex(moves => moves.some(it => it.p === p && does(it.from.r, it.to.r)));
-    const brings = ([p, r]) => moving(p, (from, to) => from !== r && to === r), takes = ([p, r]) => moving(p, (from, to) => from === r && to !== r);
+    const brings = ([p, r]) => moving(p, (from, to) => from !== r && to === r),
+      takes = ([p, r]) => moving(p, (from, to) => from === r && to !== r);
     for (const pair of this.model.forced) {
       if (brings(pair) >= 0) unbounded('S', brings(pair));
       if (takes(pair) >= 0) unbounded(takes(pair), 'T');

@@ -11,7 +11,12 @@ function startBar(show) {
   dark.addEventListener('change', () => paint(dark.matches));
   toggle('dark', paint);
   toggle('big', on => root.classList.toggle('big', on));
-  toggle('quiz', on => { document.body.classList.toggle('quiz', on); document.body.classList.remove('solved'); hideAnswers(); tell(on ? 'Quiz: what comes is hidden until you ask for it (key s).' : 'The quiz has ended.'); });
+  toggle('quiz', on => {
+    document.body.classList.toggle('quiz', on);
+    document.body.classList.remove('solved');
+    hideAnswers();
+    tell(on ? 'Quiz: what comes is hidden until you ask for it (key s).' : 'The quiz has ended.');
+  });
   $('solve').addEventListener('click', () => { document.body.classList.add('solved'); hideAnswers(); });
   $('print').addEventListener('click', () => window.print());
   for (const words of Object.keys(texts)) $('raw').append(rawPart(`matchbench ${words}`, texts[words]));
@@ -28,7 +33,7 @@ function hideAnswers() {
 
 function rawPart(title, text) {
   const pre = el('pre'), it = el('details', {}, el('summary', {}, title), pre);
-  it.addEventListener('toggle', () => { if (!pre.textContent) pre.textContent = text.length > 400000 ? `${text.slice(0, 400000)}…` : text; });
+  it.addEventListener('toggle', () => { if (!pre.textContent) pre.textContent = text; });
   return it;
 }
 

@@ -32,7 +32,8 @@ class Persons extends Market {
   isOdd(party) { return party.length > 2 && party.length % 2 === 1; }
 
   breaches(of) {
-    return [...new Set(of.flatMap((q, p) => q >= 0 && !this.isAcceptable(p, q) ? [`${this.pShown[Math.min(p, q)]} and ${this.pShown[Math.max(p, q)]} don’t list each other`] : []))];
+    return [...new Set(of.flatMap((q, p) => q >= 0 && !this.isAcceptable(p, q)
+      ? [`${this.pShown[Math.min(p, q)]} and ${this.pShown[Math.max(p, q)]} don’t list each other`] : []))];
   }
 
   blocking(of) { return super.blocking(of).filter(it => it.p < it.r && !this.without.has(it.p) && !this.without.has(it.r)); }

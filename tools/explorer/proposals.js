@@ -1,5 +1,5 @@
-// Deferred acceptance, and phase one of roommates, each step by step. A trace has lists of rows, and steps: a text, the entry that is
-// looked at (`row` and `other`), the entries that are struck, and `holds`: [other, the rows that it holds from then on].
+// Deferred acceptance, and phase one of roommates, each step by step. A trace has lists of rows, and steps: a text, the entry that
+// is looked at (`row` and `other`), the entries that are struck, and `holds`: [other, the rows that it holds from then on].
 
 // `it` has the rows' lists, names and capacities, and the others' ranks (maps from row to rank), names and capacities.
 function proposalsOf(it) {
@@ -26,7 +26,8 @@ function proposalsOf(it) {
     step.text = `${name} proposes to ${to}, which has a place, and holds ${name}.`;
     if (full) {
       step.strikes = [[worst, other]];
-      step.text = `${name} proposes to ${to}, which would rather have ${name} than ${it.names[worst]}, and sends ${it.names[worst]} away.`;
+      const out = it.names[worst];
+      step.text = `${name} proposes to ${to}, which likes ${name} better than ${out}, and sends ${out} away.`;
       held[other] = held[other].filter(q => q !== worst);
       has[worst]--;
       if (!queue.includes(worst)) queue.push(worst);
@@ -42,8 +43,10 @@ function proposalsOf(it) {
 function deferredAcceptance(model, fromReviewers) {
   const ones = names => names.map(() => 1);
   return fromReviewers
-    ? proposalsOf({ lists: model.rList, names: model.rShown, caps: model.cap, otherRanks: model.pRank, otherNames: model.pShown, otherCaps: ones(model.P) })
-    : proposalsOf({ lists: model.pList, names: model.pShown, caps: ones(model.P), otherRanks: model.rRank, otherNames: model.rShown, otherCaps: model.cap });
+    ? proposalsOf({ lists: model.rList, names: model.rShown, caps: model.cap, otherRanks: model.pRank,
+      otherNames: model.pShown, otherCaps: ones(model.P) })
+    : proposalsOf({ lists: model.pList, names: model.pShown, caps: ones(model.P), otherRanks: model.rRank,
+      otherNames: model.rShown, otherCaps: model.cap });
 }
 
 // Phase one of roommates (Irving 1985): each person proposes to the first who is left on its list. Who gets a proposal strikes
@@ -56,7 +59,9 @@ function phaseOne(model) {
     left[q] = left[q].filter(it => it !== p);
     for (const [a, b] of [[p, q], [q, p]]) if (holds[a] === b) { holds[a] = -1; free.push(b); }
   };
-  const free = names.map((_, p) => p), inert = { row: -1, other: -1, strikes: [], holds: null, text: 'Entries that aren’t returned are struck: such a pair can’t be together and can’t block.' };
+  const free = names.map((_, p) => p),
+    why = 'Entries that aren’t returned are struck: such a pair can’t be together and can’t block.';
+  const inert = { row: -1, other: -1, strikes: [], holds: null, text: why };
   model.pList.forEach((list, p) => list.forEach(q => { if (!model.isAcceptable(p, q)) inert.strikes.push([p, q]); }));
   for (const [p, q] of inert.strikes) left[p] = left[p].filter(it => it !== q);
   if (inert.strikes.length) steps.push(inert);
@@ -69,7 +74,8 @@ function phaseOne(model) {
     holds[q] = p;
     step.holds = [q, [p]];
     const out = step.strikes.filter((_, i) => i % 2 === 0).map(it => names[it[1]]);
-    step.text = `${names[p]} proposes to ${names[q]}, who holds ${names[p]}` + (before >= 0 ? ` in place of ${names[before]}` : '') +
+    step.text = `${names[p]} proposes to ${names[q]}, who holds ${names[p]}` +
+      (before >= 0 ? ` in place of ${names[before]}` : '') +
       (out.length ? `, and strikes ${out.join(', ')}, whom it likes less.` : '.');
   }
   return { names, otherNames: names, lists: model.pList, steps };

@@ -59,9 +59,15 @@ class Sides extends Market {
   }
 
   // Whether rotation i brings a proposer to the seat from which j takes it.
-  brings(i, j) { return this.moves[i].some(it => this.moves[j].some(to => to.p === it.p && to.from.r === it.to.r && to.from.s === it.to.s)); }
+  brings(i, j) {
+    const takes = it => to => to.p === it.p && to.from.r === it.to.r && to.from.s === it.to.s;
+    return this.moves[i].some(it => this.moves[j].some(takes(it)));
+  }
 
-  sentence(i) { return this.moves[i].map(it => `${this.pShown[it.p]}: ${this.seatName(it.from)} → ${this.seatName(it.to)}`).join(', '); }
+  // The moves of a rotation, each as a text.
+  moveTexts(i) { return this.moves[i].map(it => `${this.pShown[it.p]}: ${this.seatName(it.from)} → ${this.seatName(it.to)}`); }
+
+  sentence(i) { return this.moveTexts(i).join(', '); }
 
   pairsIn(answer) {
     const of = this.P.map(() => -1);
@@ -77,7 +83,8 @@ class Sides extends Market {
     };
     const marks = [
       { id: 'best', label: 'Proposers’ best', words: 'solve', of: this.matchingOf(this.none()), note: 'no rotation taken' },
-      { id: 'worst', label: 'Reviewers’ best', words: 'solve side=reviewers', of: this.matchingOf(this.all()), note: 'all rotations taken' },
+      { id: 'worst', label: 'Reviewers’ best', words: 'solve side=reviewers', of: this.matchingOf(this.all()),
+        note: 'all rotations taken' },
       answer('median', 'Median', 'median', it => `of ${it.value('listed')} allowed matchings`),
       answer('regret', 'Least regret', 'regret', it => `regret ${it.value('regret')}`),
       answer('ranks', 'Lightest by ranks', 'weight by=ranks', it => `sum ${it.value('total')}`)];
@@ -158,7 +165,11 @@ class Sides extends Market {
   // The sets on a shortest route between two closed sets, both ends included, each with the step that leads there.
   route(a, b) {
     const steps = [{ set: a, word: 'A' }];
-    const walk = (i, word) => { const set = steps[steps.length - 1].set.slice(); set[i] = 1 - set[i]; steps.push({ set, word: `${word} ${i + 1}`, i }); };
+    const walk = (i, word) => {
+      const set = steps[steps.length - 1].set.slice();
+      set[i] = 1 - set[i];
+      steps.push({ set, word: `${word} ${i + 1}`, i });
+    };
     this.members(a).filter(i => !b[i]).reverse().forEach(i => walk(i, 'back'));
     this.members(b).filter(i => !a[i]).forEach(i => walk(i, 'forth'));
     return steps;
@@ -189,10 +200,15 @@ class Sides extends Market {
   // What a listing and the closed sets have to do with each other; `rows` are those of closedSets.
   agreement(rows) {
     const of = this.listed.map(vector => this.ofVector(vector));
-    if (of.some(it => !this.setOf(it) || !this.isAllowed(it))) return { ok: false, text: 'THE PROGRAM LISTED A MATCHING THAT THIS PAGE CAN’T MAKE.' };
-    if (!rows || !this.answers.list.isWhole) return { ok: true, text: `All ${of.length} that the program listed are among the matchings of closed sets; the listing isn’t whole.` };
+    if (of.some(it => !this.setOf(it) || !this.isAllowed(it))) {
+      return { ok: false, text: 'THE PROGRAM LISTED A MATCHING THAT THIS PAGE CAN’T MAKE.' };
+    }
+    if (!rows || !this.answers.list.isWhole) {
+      return { ok: true, text: `All ${of.length} that the program listed are matchings of closed sets; the listing isn’t whole.` };
+    }
     const mine = rows.flat().map(set => this.matchingOf(set)).filter(it => this.isAllowed(it));
     const ok = new Set(mine.map(it => this.vectorOf(it))).size === of.length;
-    return { ok, text: ok ? `All ${of.length} allowed matchings that it makes are those of the program’s list, and no others.` : 'ITS MATCHINGS ARE NOT THOSE OF THE PROGRAM’S LIST.' };
+    return { ok, text: ok ? `All ${of.length} allowed matchings that it makes are those of the program’s list, and no others.`
+      : 'ITS MATCHINGS ARE NOT THOSE OF THE PROGRAM’S LIST.' };
   }
 }

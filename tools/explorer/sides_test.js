@@ -6,7 +6,8 @@ function testRotations(tried) {
     const taken = nodes.map(it => it.getAttribute('aria-checked') === 'true');
     if (!taken.every((it, j) => !it || model.needs[j].every(l => taken[l]))) tried.want(`closed after rotation ${i + 1}`, false);
     if (!document.querySelector('#verdict .good')) tried.want(`stable after rotation ${i + 1}`, false);
-    if (model.answers.list.isWhole && !model.conditions && !model.listed.includes(shownVector(model))) tried.want(`listed after rotation ${i + 1}`, false);
+    if (model.answers.list.isWhole && !model.conditions
+      && !model.listed.includes(shownVector(model))) tried.want(`listed after rotation ${i + 1}`, false);
   });
   const each = (performance.now() - begun) / Math.max(1, model.k);
   tried.want('each rotation clicked: closed, stable, listed', !tried.wrong);
@@ -22,30 +23,42 @@ function testRotations(tried) {
 function testJumps(tried) {
   for (const mark of model.marks) {
     const button = document.querySelector(`[data-mark=${mark.id}]`);
-    if (!mark.of) { tried.want(`${mark.label}: greyed, and it says why`, button.disabled && button.title !== '' && $('greyed').textContent.includes(mark.note)); continue; }
+    if (!mark.of) { tried.want(`${mark.label}: greyed, and it says why`,
+      button.disabled && button.title !== '' && $('greyed').textContent.includes(mark.note)); continue; }
     fire(button);
-    tried.want(`${mark.label}: the program’s matching, stable and allowed`, shownVector(model) === model.vectorOf(mark.of) && !!document.querySelector('#verdict .good') &&
+    tried.want(`${mark.label}: the program’s matching, stable and allowed`,
+      shownVector(model) === model.vectorOf(mark.of) && !!document.querySelector('#verdict .good') &&
       (['best', 'worst'].includes(mark.id) || model.isAllowed(mark.of)));
   }
-  const regret = model.marks.find(mark => mark.id === 'regret'), ranks = model.marks.find(mark => mark.id === 'ranks'), given = model.marks.find(mark => mark.id === 'given');
-  if (regret.of) tried.want('its regret is what the program says', `${model.figures(regret.of).regret}` === answers.regret.value('regret'));
-  if (ranks.of) tried.want('its sum is what the program says', `${model.figures(ranks.of).total}` === answers['weight by=ranks'].value('total'));
-  if (given && given.of) tried.want('its weight is what the program says', `${model.givenOf(given.of)[0]}` === answers['weight by=given'].value('total'));
+  const regret = model.marks.find(mark => mark.id === 'regret'), ranks = model.marks.find(mark => mark.id === 'ranks'),
+    given = model.marks.find(mark => mark.id === 'given');
+  if (regret.of) tried.want('its regret is what the program says',
+    `${model.figures(regret.of).regret}` === answers.regret.value('regret'));
+  if (ranks.of) tried.want('its sum is what the program says',
+    `${model.figures(ranks.of).total}` === answers['weight by=ranks'].value('total'));
+  if (given && given.of) tried.want('its weight is what the program says',
+    `${model.givenOf(given.of)[0]}` === answers['weight by=given'].value('total'));
 }
 
 function testLattice(tried) {
   if (!rows) { tried.want('the neighbours are buttons', !model.k || $('lattice').querySelectorAll('button').length > 0); return; }
-  tried.wantEach('each matching is reached by a click', [...latticeView.nodes].slice(0, 60), ([key, { node }]) => { fire(node); return model.key(walk.set) === key && node.getAttribute('aria-current') === 'true'; });
+  tried.wantEach('each matching is reached by a click', [...latticeView.nodes].slice(0, 60),
+    ([key, { node }]) => { fire(node); return model.key(walk.set) === key && node.getAttribute('aria-current') === 'true'; });
 }
 
 function testCompare(tried) {
   hit('1'); hit('a'); hit('2'); hit('b');
   const [best, worst] = model.marks, route = walk.route();
-  tried.want('keys: both bests are kept as A and B', !$('compareBox').hidden && model.vectorOf(walk.A) === model.vectorOf(best.of) && model.vectorOf(walk.B) === model.vectorOf(worst.of));
-  tried.want('the meet of both bests is the first, the join the last', model.meet(walk.A, walk.B).join() === best.of.join() && model.join(walk.A, walk.B).join() === worst.of.join());
-  tried.wantEach('each step of the route is a stable matching, one rotation on', route.slice(1), step => model.isClosed(step.set) && !model.blocking(model.matchingOf(step.set)).length);
+  tried.want('keys: both bests are kept as A and B', !$('compareBox').hidden && model.vectorOf(walk.A) === model.vectorOf(best.of)
+    && model.vectorOf(walk.B) === model.vectorOf(worst.of));
+  tried.want('the meet of both bests is the first, the join the last',
+    model.meet(walk.A, walk.B).join() === best.of.join() && model.join(walk.A, walk.B).join() === worst.of.join());
+  tried.wantEach('each step of the route is a stable matching, one rotation on', route.slice(1),
+    step => model.isClosed(step.set) && !model.blocking(model.matchingOf(step.set)).length);
   tried.want('the route has a step for each rotation', route.length === model.k + 1);
-  if (rows) tried.want('the route is marked in the lattice, with its ends', latticeView.edges.filter(it => it.line.classList.contains('route')).length === model.k && document.querySelectorAll('.matching.kept').length === (model.k ? 2 : 1));
+  if (rows) tried.want('the route is marked in the lattice, with its ends',
+    latticeView.edges.filter(it => it.line.classList.contains('route')).length === model.k
+    && document.querySelectorAll('.matching.kept').length === (model.k ? 2 : 1));
   fire([...$('compare').querySelectorAll('button')].find(it => it.textContent === 'Forget A and B'));
   tried.want('A and B are forgotten', $('compareBox').hidden);
 }
@@ -55,9 +68,11 @@ function testHand(tried) {
   const chip = document.querySelector('#pLists button.chip:not(.now)');
   if (chip) {
     fire(chip);
-    tried.want('by hand: a change is shown, and what is wrong with it', !!document.querySelector('#pairs tr.changed') && ($('verdict').textContent.includes('Not') || !!walk.closed()));
+    tried.want('by hand: a change is shown, and what is wrong with it',
+      !!document.querySelector('#pairs tr.changed') && ($('verdict').textContent.includes('Not') || !!walk.closed()));
     const of = walk.now();
-    tried.wantEach('each blocking pair is one', model.breaches(of).length ? [] : model.blocking(of), it => it.rank < it.own && it.back < it.worst);
+    tried.wantEach('each blocking pair is one', model.breaches(of).length ? [] : model.blocking(of),
+      it => it.rank < it.own && it.back < it.worst);
     hit('u');
     tried.want('undone', shownVector(model) === model.vectorOf(model.marks[0].of));
   }

@@ -12,7 +12,8 @@ class Tried {
 
   end(claims) {
     this.lines.push(this.wrong ? `explorer: ${this.wrong} failed` : 'explorer: passed');
-    document.body.append(el('pre', { id: 'claims', hidden: '' }, JSON.stringify(claims)), el('pre', { id: 'test' }, this.lines.join('\n')));
+    document.body.append(el('pre', { id: 'claims', hidden: '' }, JSON.stringify(claims)),
+      el('pre', { id: 'test' }, this.lines.join('\n')));
   }
 }
 
@@ -22,7 +23,8 @@ const hit = key => document.body.dispatchEvent(new KeyboardEvent('keydown', { ke
 
 // The vector of what the page's table shows.
 function shownVector(model) {
-  const rank = new Map([...$('pairs').querySelectorAll('tbody tr')].map(row => [row.children[0].textContent, row.children[2].textContent]));
+  const rank = new Map([...$('pairs').querySelectorAll('tbody tr')].map(row => [row.children[0].textContent,
+    row.children[2].textContent]));
   return model.P.length ? model.pShown.map(name => rank.get(name)).join(',') : '-';
 }
 

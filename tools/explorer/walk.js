@@ -13,8 +13,10 @@ class Walk {
   // What changed, as a sentence.
   changes(before, after) {
     const moved = [];
-    after.forEach((r, p) => { if (r !== before[p]) moved.push(`${this.model.pShown[p]}: ${this.model.partner(before[p])} → ${this.model.partner(r)}`); });
-    return !moved.length ? 'Nobody moves.' : moved.length > 8 ? `${moved.length} move: ${moved.slice(0, 8).join(', ')}, …` : `Changed: ${moved.join(', ')}.`;
+    const move = (p, from, to) => `${this.model.pShown[p]}: ${this.model.partner(from)} → ${this.model.partner(to)}`;
+    after.forEach((r, p) => { if (r !== before[p]) moved.push(move(p, before[p], r)); });
+    if (!moved.length) return 'Nobody moves.';
+    return moved.length > 8 ? `${moved.length} move: ${moved.slice(0, 8).join(', ')}, …` : `Changed: ${moved.join(', ')}.`;
   }
 
   step(set, of, text) {
@@ -40,7 +42,8 @@ class Walk {
   along(i) {
     const from = this.closed() || this.set, to = this.model.toggled(from, i);
     const others = from.reduce((found, it, j) => it !== to[j] && j !== i ? [...found, j] : found, []);
-    return { to, others, text: !others.length ? '' : to[i] ? `with ${numbers(others)}, which it needs` : `with ${numbers(others)}, which need it` };
+    const why = to[i] ? 'which it needs' : 'which need it';
+    return { to, others, text: others.length ? `with ${numbers(others)}, ${why}` : '' };
   }
 
   turn(i) {

@@ -29,15 +29,18 @@ def example(name):
 
 
 def opposed(size, length, seed):
-    """A marriage with many rotations: who likes the other side's agent likes it the more, the less it is liked there. Each lists the
-    agents beside it in a circle.
+    """A marriage with many rotations: the more an agent likes one of the other side, the less it is liked there. Each lists those
+    beside it in a circle.
     """
     chance = random.Random(seed)
     near = [[(i + d) % size for d in range(-(length // 2), length - length // 2)] for i in range(size)]
     score = [[chance.random() for _ in range(size)] for _ in range(size)]
     listing = [[i for i in range(size) if j in near[i]] for j in range(size)]
-    lines = [f'p s{i + 1:03}: ' + ' '.join(f'c{j + 1:03}' for j in sorted(near[i], key=score[i].__getitem__)) for i in range(size)]
-    lines += [f'r c{j + 1:03}: ' + ' '.join(f's{i + 1:03}' for i in sorted(listing[j], key=lambda i, j=j: -score[i][j])) for j in range(size)]
+    lines = []
+    for i, row in enumerate(near):
+        lines.append(f'p s{i + 1:03}: ' + ' '.join(f'c{j + 1:03}' for j in sorted(row, key=score[i].__getitem__)))
+    for j, row in enumerate(listing):
+        lines.append(f'r c{j + 1:03}: ' + ' '.join(f's{i + 1:03}' for i in sorted(row, key=lambda i, j=j: -score[i][j])))
     return '\n'.join(['stable 1 marriage', *lines, 'end', ''])
 
 
@@ -71,8 +74,17 @@ def data_in(page):
 
 def whole(parts, rotations):
     """An answer of the data, word for word."""
+    if isinstance(parts, str):
+        return parts
+    if isinstance(parts, dict):
+        vectors, ranks = [], {}
+        for own in parts['changes']:
+            ranks.update(zip(own[::2], own[1::2]))
+            vectors.append(','.join(str(ranks[it]) for it in sorted(ranks)))
+        last = parts['last'] + (f' {vectors[-1]}' if parts['last'] == 'more' else '')
+        return '\n'.join([parts['head'], *(f'vector {it}' for it in vectors), last, ''])
     lines = rotations.split('\n')
-    return parts if isinstance(parts, str) else ''.join(it if isinstance(it, str) else '\n'.join(lines[slice(*it)]) + '\n' for it in parts)
+    return ''.join(it if isinstance(it, str) else '\n'.join(lines[slice(*it)]) + '\n' for it in parts)
 
 
 @functools.lru_cache(None)
@@ -82,7 +94,8 @@ def tried(page):
         file = os.path.join(folder, 'page.html')
         with open(file, 'w', encoding='utf-8') as out:
             out.write(page)
-        words = ['--headless', '--disable-gpu', '--disable-extensions', f'--user-data-dir={folder}/profile', '--dump-dom', f'file://{file}#test']
+        words = ['--headless', '--disable-gpu', '--disable-extensions', f'--user-data-dir={folder}/profile', '--dump-dom',
+                 f'file://{file}#test']
         if os.geteuid() == 0:
             words.insert(0, '--no-sandbox')
         done = subprocess.run([BROWSER, *words], stdout=subprocess.PIPE, stderr=subprocess.DEVNULL, timeout=120)
@@ -95,8 +108,9 @@ def tried(page):
 class Pages(unittest.TestCase):
     def test_answers(self):
         """The page holds the program's answers word for word."""
-        for name in ('five_rotations', 'hospitals', 'two_levels', 'forbidden', 'odd_party', 'roommates'):
-            page, text = page_of(example(name)), example(name)
+        names = ('five_rotations', 'hospitals', 'two_levels', 'forbidden', 'odd_party', 'roommates')
+        for text in (opposed(40, 10, 1), *map(example, names)):
+            page = page_of(text)
             data = data_in(page)
             self.assertEqual(data['text'], text)
             self.assertEqual(program.ask(text, 'export')[1].strip(), re.search(r'id="exported">(.*?)</script>', page).group(1))
@@ -133,7 +147,8 @@ class Pages(unittest.TestCase):
             self.assertEqual(tried(page)[1], 'explorer: passed', tried(page)[0])
 
     def test_refused(self):
-        seats = 'stable 1 hospitals\n' + ''.join(f'p p{i}: h\n' for i in range(1025)) + f'r h [2000]: {" ".join(f"p{i}" for i in range(1025))}\nend\n'
+        names = [f'p{i}' for i in range(1025)]
+        seats = '\n'.join(['stable 1 hospitals', *(f'p {it}: h' for it in names), f'r h [2000]: {" ".join(names)}', 'end', ''])
         for text, what in ((seats, 'TooManySeats'), ('stable 1 marriage\n', 'MissingEnd'), (example('two_matchings'), 'AfterEnd')):
             status, page, fault = explore(text)
             self.assertEqual((status, page), (1, ''))
@@ -173,7 +188,7 @@ class Browser(unittest.TestCase):
     def test_faults(self):
         """A page whose answers have a fault ends with `failed`: a need, what flows, and a matching of the listing."""
         page = page_of(example('five_rotations'))
-        for old, new in (('needs 3 2\\n', 'needs 3 -\\n'), ('vector 2,1,3,2,1,1\\n', 'vector 2,1,3,2,1,3\\n')):
+        for old, new in (('needs 3 2\\n', 'needs 3 -\\n'), ('"changes":[[0,1,', '"changes":[[0,2,')):
             self.assertEqual(page.count(old), 1)
             self.fails(page.replace(old, new))
         page = page_of(example('two_levels'))
@@ -210,7 +225,8 @@ class Model(unittest.TestCase):
             with tempfile.NamedTemporaryFile('w', suffix='.html', encoding='utf-8') as file:
                 file.write(page_of(text))
                 file.flush()
-                done = subprocess.run(['node', os.path.join(HERE, 'explorer_model.js'), file.name], stdout=subprocess.PIPE, stderr=subprocess.STDOUT)
+                words = ['node', os.path.join(HERE, 'explorer_model.js'), file.name]
+                done = subprocess.run(words, stdout=subprocess.PIPE, stderr=subprocess.STDOUT)
             self.assertEqual(done.stdout.decode().split('\n')[-2], 'passed', done.stdout.decode())
 
 
