@@ -22,17 +22,17 @@ function listText({ head, changes, last }) {
 }
 
 class Answer {
-  // `reasons` has what a refusal means, by its name.
-  constructor(text, reasons) {
+  constructor(text) {
     this.text = text || '';
     this.lines = this.text.split('\n').filter(line => line !== '').map(line => line.split(' '));
-    this.whyNot = this.reason(reasons || {});
+    this.whyNot = this.reason();
   }
 
   // Why there is nothing to show, or ''.
-  reason(reasons) {
+  reason() {
     if (!this.lines.length) return 'the program wasn’t asked';
-    if (this.lines[0][0] === 'refused') return `the program refused (${this.lines[0][1]}): ${reasons[this.lines[0][1]] || ''}`;
+    if (this.lines[0][1] === 'TooMany') return 'the program refused (TooMany): more than 100,000 stable matchings are allowed';
+    if (this.lines[0][0] === 'refused') return `the program refused: ${this.lines[0].join(' ')}`;
     return this.lines.some(line => line[0] === 'none') ? 'none: no stable matching is allowed' : '';
   }
 

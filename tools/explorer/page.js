@@ -1,7 +1,7 @@
 // What pages of both kinds share: the data, the bar's buttons, keys, and the program's lines.
 const data = JSON.parse($('data').textContent), exported = $('exported').textContent.trim();
 const texts = wholeTexts(data.answers);
-const answers = Object.fromEntries(Object.entries(texts).map(([words, text]) => [words, new Answer(text, data.reasons)]));
+const answers = Object.fromEntries(Object.entries(texts).map(([words, text]) => [words, new Answer(text)]));
 
 // Quiz, large type, dark, print.
 function startBar(show) {

@@ -26,6 +26,9 @@ class Persons extends Market {
     return of;
   }
 
+  // A person's own name on its list counts nothing.
+  isAcceptable(p, q) { return p !== q && super.isAcceptable(p, q); }
+
   // Couples and those alone, as parties.
   partiesOf(of) { return of.map((q, p) => q < 0 ? [p] : p < q ? [p, q] : null).filter(it => it); }
 

@@ -7,7 +7,7 @@ const part = id => page.match(new RegExp(`id="${id}">([^]*?)</script>`))[1];
 const data = JSON.parse(part('data'));
 vm.runInThisContext(files.map(file => fs.readFileSync(path.join(folder, file), 'utf-8')).join('\n') + '\nconst made = { wholeTexts, Answer, Sides, Net, laidOut, spread, claimText };');
 const { wholeTexts, Answer, Sides, Net, laidOut, spread, claimText } = vm.runInThisContext('made');
-const answers = Object.fromEntries(Object.entries(wholeTexts(data.answers)).map(([words, text]) => [words, new Answer(text, {})]));
+const answers = Object.fromEntries(Object.entries(wholeTexts(data.answers)).map(([words, text]) => [words, new Answer(text)]));
 const model = new Sides(JSON.parse(part('exported')), answers, {});
 let wrong = 0;
 const want = (what, ok) => { if (!ok) { wrong++; console.log('not so:', what); } };
