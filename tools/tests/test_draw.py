@@ -405,6 +405,122 @@ class Draw(unittest.TestCase):
         self.assertEqual((status, picture), (1, ''))
         self.assertIn('the first flow may still change something that leads out of the taken rotations', fault)
 
+    def boxes(self, name, *words, answer='rotations'):
+        """The boxes of a lattice by their sets, and its lines by the sets that they lead from and to."""
+        status, picture, fault = draw(example(name + '.txt'), example(f'{name}.{answer}'), '--lattice', *words)
+        self.assertEqual((status, fault), (0, ''))
+        nodes = nodes_of(picture)
+        return {label[-1]: label[:-1] for label in nodes.values()}, \
+            {(nodes[a][-1], nodes[b][-1]): rest for (a, b), rest in edges_of(picture).items()}, picture
+
+    def test_changed(self):
+        """Each line has its rotation's moves."""
+        _, lines, _ = self.boxes('five_rotations', '--changed')
+        self.assertEqual(lines['{}', '{1}'], r'label=" 1\l ann: art to chemistry\l cem: chemistry to art\l"')
+        self.assertEqual(lines['{1}', '{1, 5}'], r'label=" 5\l eve: english to french\l fay: french to english\l"')
+
+    def test_both_ranks(self):
+        """By hand, also of hospitals with several places and of a reviewer that has nobody."""
+        boxes, _, picture = self.boxes('five_rotations', '--ranks', 'both')
+        self.assertEqual(boxes['{}'], ['best for the proposers', '1 1 1 1 1 1', '| 5 3 3 2 2 2'])
+        self.assertIn('ranks for ann ben cem dan eve fay | art biology chemistry drama english french"', picture)
+        picture = draw(H, H_ANSWER, '--lattice', '--ranks', 'both')[1]
+        self.assertEqual([label[1:3] for label in nodes_of(picture).values()], [['1 1 1', '| 2+3 2'], ['1 2 2', '| 1+2 1']])
+        text = 'stable 1 marriage\np m: a\nr a: m\nr b:\nend\n'
+        self.assertIn('\\n| 1 -\\n', draw(text, 'answer rotations\nfirst m a\nend\n', '--lattice', '--ranks', 'both')[1])
+
+    def test_marks(self):
+        """The matchings that the program's stored answers have."""
+        boxes = self.boxes('five_rotations', '--mark', 'regret', '--mark', 'weight', '--mark', 'median')[0]
+        self.assertEqual(boxes['{1}'], ['least regret', 'lightest', '2 1 2 1 1 1'])
+        self.assertEqual(boxes['{1, 2}'], ['median', '2 1 3 2 1 1'])
+        self.assertEqual(self.boxes('five_rotations', '--median')[2], self.boxes('five_rotations', '--mark', 'median')[2])
+        for name, closed in (('weighed', '{1, 2}'), ('two_levels', '{1, 2}'), ('second_weights', '{1}')):
+            text = example(name + '.weight_given')
+            rotations = re.sub('^(?!first|rotation|needs|end).*\n', '', text, flags=re.M)
+            status, picture, fault = draw(example(name + '.txt'), 'answer rotations\n' + rotations, '--lattice', '--mark', 'weight')
+            self.assertEqual((status, fault), (0, ''))
+            self.assertEqual([label[-1] for label in nodes_of(picture).values() if 'lightest' in label], [closed], name)
+
+    def test_marked_files(self):
+        file = os.path.join(EXAMPLES, 'five_rotations.median')
+        self.assertEqual(self.boxes('five_rotations', '--mark', file)[0]['{1, 2}'], ['median', '2 1 3 2 1 1'])
+        for name in ('three_cycle.median', 'five_rotations.rotations', 'forbidden.median'):
+            status, _, fault = draw(example('five_rotations.txt'), example('five_rotations.rotations'), '--lattice', '--mark',
+                                    os.path.join(EXAMPLES, name))
+            self.assertEqual(status, 1)
+            self.assertIn('it has no stable matching of instance.txt', fault)
+
+    def test_no_mark(self):
+        """Where nothing is allowed nothing is marked."""
+        text = example('forbidden.txt')
+        status, picture, _ = draw(text, rotations_of(text), '--lattice', *(it for word in ('regret', 'weight', 'median')
+                                                                           for it in ('--mark', word)))
+        self.assertEqual(status, 0)
+        self.assertNotRegex(picture, 'regret|lightest|median')
+
+    def test_route(self):
+        """The text is the one that the program read; both ends are marked, and arrows go as one walks: back by 1, and forth by 2."""
+        boxes, lines, picture = self.boxes('two_matchings', answer='route')
+        self.assertEqual([boxes[it][0] for it in ('{1}', '{2}')], ['left end', 'right end'])
+        red = 'color="#c0392b", penwidth=2'
+        self.assertEqual(lines, {('{}', '{1}'): f'label=" 1", {red}, dir=back', ('{}', '{2}'): f'label=" 2", {red}',
+                                 ('{1}', '{1, 2}'): 'label=" 2"', ('{2}', '{1, 2}'): 'label=" 1"'})
+        self.assertEqual(picture.count('penwidth'), 4)
+        right = example('two_matchings.route')
+        for old, new, what in (('back 1', 'forth 1', 'no such step'), ('forth 2\n', '', 'don\'t lead from the left'),
+                               ('left m1 b', 'left m1 a', 'no such step'), ('left m1 b\nleft m2 a\n', '', 'no such step')):
+            status, _, fault = draw(example('two_matchings.txt'), right.replace(old, new, 1), '--lattice')
+            self.assertEqual(status, 1)
+            self.assertIn(what, fault)
+
+    def test_across(self):
+        texts = example('two_by_two.txt'), example('two_by_two.rotations')
+        for words in ([], ['--lattice']):
+            self.assertEqual(draw(*texts, *words, '--across')[1].replace('rankdir=LR, ', ''), draw(*texts, *words)[1])
+
+    def test_parties(self):
+        """By hand: an odd party points round and is red, couples have one line, and who is left out is dashed."""
+        picture = draw(example('odd_party.txt'), example('odd_party.solve'))[1]
+        red = 'color="#c0392b", penwidth=2'
+        lines = re.findall(r'^    "(\w+)" -> "(\w+)" \[(.*)\];$', picture, re.M)
+        self.assertEqual(lines, [('ann', 'ben', red), ('ben', 'cem', red), ('cem', 'ann', red)])
+        self.assertIn(f'"cem" [label="cem", {red}, peripheries=2];', picture)
+        self.assertIn('"dan" [label="dan"];', picture)
+        self.assertIn('an odd party excludes every stable matching', picture)
+        picture = draw(example('odd_party.txt'), example('odd_party.rest'))[1]
+        self.assertIn('"ann" [label="ann", style="rounded,dashed"];', picture)
+        self.assertIn('"ben" -> "cem" [dir=none];', picture)
+        self.assertIn('label="a stable matching"', draw(example('four_persons.txt'), example('four_persons.solve'))[1])
+        for text, answer, what in ((example('four_persons.txt'), 'answer solve\npair ann zoe\nend\n', 'zoe isn\'t there'),
+                                   (example('four_persons.txt'), 'answer solve\nparty ann ben ann\nend\n', 'ann isn\'t there, or stands twice'),
+                                   (example('four_persons.txt'), example('four_persons.list'), 'roommates have no order')):
+            status, _, fault = draw(text, answer)
+            self.assertEqual(status, 1)
+            self.assertIn(what.replace('roommates have no order', 'not of `rotations`'), fault)
+
+    def test_phase_one(self):
+        """By hand: ann proposes to ben, who strikes dan; then ben to cem and cem to ann do the same."""
+        status, picture, fault = draw(example('odd_party.txt'), '', '--phase-one')
+        self.assertEqual((status, fault), (0, ''))
+        rows = re.findall('<tr>(.*?)</tr>', picture)
+        cells = [[re.sub('<.*?>', ' ', it).split() for it in re.findall('<td.*?</td>', row)] for row in rows]
+        self.assertEqual(cells, [[['ann'], ['ben'], ['cem'], ['dan', '3']], [['ben'], ['cem'], ['ann'], ['dan', '1']],
+                                 [['cem'], ['ann'], ['ben'], ['dan', '2']], [['dan'], ['ann', '3'], ['ben', '1'], ['cem', '2']]])
+        self.assertEqual(picture.count('bgcolor'), 3)
+        text = 'stable 1 roommates\np a: b a c\np b: c\np c: b\nend\n'
+        self.assertEqual(draw(text, '', '--phase-one')[1].count('not returned'), 3)
+        self.assertEqual(draw(example('two_by_two.txt'), '', '--phase-one')[0], 1)
+
+    def test_net_names(self):
+        """With names the boxes of a net have moves."""
+        with tempfile.TemporaryDirectory() as folder:
+            names = os.path.join(folder, 'names.csv')
+            with open(names, 'w', encoding='utf-8') as file:
+                file.write('side,name,original\n' + ''.join(f'proposer,m{i},Mx {i}\nreviewer,{it},{it}!\n' for i, it in ((1, 'a'), (2, 'b'), (3, 'c'))))
+            picture = draw(example('weighed.txt'), example('weighed.weight_given'), '--net', '--names', names)[1]
+        self.assertIn('label="rotation 1\\ngain 4\\nMx 1: a! to b!\\nMx 2: b! to c!\\nMx 3: c! to a!\\n"', picture)
+
     def test_svg(self):
         """Without `dot` it says what to install; a graph is drawn where it is there."""
         with tempfile.TemporaryDirectory() as folder:
@@ -418,7 +534,9 @@ class Draw(unittest.TestCase):
                 self.assertIn('m1: a to b', text_of(file))
 
     def test_words(self):
-        for words in (['--most', '0'], ['--most', 'x'], ['--latt'], ['--net', '--lattice'], ['--partners'], ['--net', '--names', 'n'], ['a', 'b']):
+        for words in (['--most', '0'], ['--most', 'x'], ['--latt'], ['--net', '--lattice'], ['--partners'], ['--mark', 'median'],
+                      ['--changed'], ['--ranks', 'both'], ['--lattice', '--ranks', 'x'], ['--lattice', '--partners', '--ranks', 'both'],
+                      ['--net', '--phase-one'], ['a', 'b']):
             self.assertEqual(draw(example('two_by_two.txt'), '', *words)[0], 2, words)
 
 

@@ -1,0 +1,79 @@
+// The shown matching: its figures, whether it is stable, and who has whom. `words` says what rows and columns are called.
+class MatchingView {
+  constructor(model, words) {
+    Object.assign(this, { model, words, rows: [], shown: [] });
+    const head = el('tr', {}, ...[words.row, 'has'].map(it => el('th', {}, it)), el('th', { class: 'n' }, 'rank'),
+      el('th', { class: 'n' }, 'its rank there'), el('th', {}, 'before'));
+    this.rows = model.pShown.map(name => el('tr', {}, el('td', {}, name), el('td'), el('td', { class: 'n' }),
+      el('td', { class: 'n' }), el('td')));
+    this.body = el('tbody', {}, ...this.rows);
+    $('pairs').replaceChildren(el('thead', {}, head), this.body);
+  }
+
+  // `note` says of which set it is; `extra` are more figures.
+  show(of, before, note, extra) {
+    const { model } = this, sums = model.figures(of);
+    $('setNote').textContent = note;
+    const figure = (word, n) => el('span', {}, `${word} `, el('b', {}, String(n)));
+    $('figures').replaceChildren(figure('matched', `${sums.matched} of ${model.P.length}`), figure('first choices', sums.firsts),
+      ...this.words.sums(sums).map(it => figure(...it)),
+      figure('regret', sums.regret), ...extra.map(it => figure(...it)));
+    const { rows, columns } = model.tallies(of);
+    $('tallies').replaceChildren(...this.words.histograms.map((word, i) => this.histogram(word, i ? columns : rows)));
+    this.showVerdict(of);
+    this.showRows(of, before);
+  }
+
+  // How often each rank occurs: bars with their numbers, for ranks up to 6, later ones together, and nobody.
+  histogram(word, counts) {
+    const bars = [1, 2, 3, 4, 5, 6].map(rank => [String(rank), counts.get(rank) || 0]);
+    let later = 0;
+    counts.forEach((n, rank) => { if (rank > 6) later += n; });
+    if (later) bars.push(['7+', later]);
+    while (bars.length > 1 && !bars[bars.length - 1][1]) bars.pop();
+    if (counts.get('none')) bars.push(['none', counts.get('none')]);
+    const most = Math.max(1, ...bars.map(it => it[1])), high = 34;
+    const inside = bars.flatMap(([rank, n], i) => {
+      const h = Math.round(n / most * high), x = i * 30;
+      return [svg('rect', { class: 'bar', x: x + 4, y: 14 + high - h, width: 20, height: h }),
+        svg('text', { class: 'tally', x: x + 14, y: 11 + high - h, 'text-anchor': 'middle' }, n ? `${n}` : ''),
+        svg('text', { class: 'tag', x: x + 14, y: 28 + high, 'text-anchor': 'middle' }, rank)];
+    });
+    return el('figure', {}, el('figcaption', {}, word), picture(bars.length * 30, 64,
+      `${word}: ${bars.map(([rank, n]) => `${n} of rank ${rank}`).join(', ')}`, inside));
+  }
+
+  showVerdict(of) {
+    const { model } = this, breaches = model.breaches(of), blocks = breaches.length ? [] : model.blocking(of);
+    const more = (list, most) => list.length > most ? [el('li', {}, `and ${list.length - most} more`)] : [];
+    if (breaches.length) {
+      $('verdict').replaceChildren(el('div', { class: 'box wrong' }, el('b', {}, '✗ Not a matching: '),
+        el('ul', {}, ...breaches.slice(0, 8).map(it => el('li', {}, it)), ...more(breaches, 8))));
+    } else if (blocks.length) {
+      $('verdict').replaceChildren(el('div', { class: 'box wrong' }, el('b', {}, '✗ Not stable. '),
+        `${blocks.length === 1 ? 'One pair blocks' : `${blocks.length} pairs block`}: `,
+        el('ul', {}, ...blocks.slice(0, 8).map(it => el('li', {}, model.blockingText(of, it))), ...more(blocks, 8))));
+    } else {
+      $('verdict').replaceChildren(el('div', { class: 'box' }, el('b', { class: 'good' }, '✓ Stable: '),
+        `no pair blocks it${this.words.allowed(of)}.`));
+    }
+  }
+
+  showRows(of, before) {
+    const { model, rows, shown } = this, was = before || of;
+    rows.forEach((row, p) => {
+      const r = of[p], changed = was[p] !== r, text = `${r} ${changed ? was[p] : ''}`;
+      if (shown[p] === text) return;
+      shown[p] = text;
+      const cells = row.children;
+      row.classList.toggle('changed', changed);
+      cells[1].textContent = model.partner(r);
+      cells[2].textContent = model.rankOf(of, p);
+      cells[3].textContent = r < 0 ? '' : model.rRank[r].get(p) || '–';
+      cells[4].textContent = changed ? model.partner(was[p]) : '';
+    });
+    if (rows.length <= 60) return;
+    const order = rows.map((_, p) => p).sort((a, b) => (was[b] !== of[b]) - (was[a] !== of[a]) || a - b);
+    if (order.some((p, i) => this.body.children[i] !== rows[p])) this.body.replaceChildren(...order.map(p => rows[p]));
+  }
+}
