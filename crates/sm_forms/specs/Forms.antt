@@ -1,12 +1,12 @@
 -- The forms of lines, over their tokens.
-use Rattle.std.specs.Prelude.{if◌then◌else◌, ◌≡◌, ℕ, ◌==◌, ◌&&◌, Bool, false, List, [], ◌∷◌, Option, Some, None, codes}
+use Rattle.std.specs.Prelude.{if◌then◌else◌, ◌≡◌, ℕ, ◌==◌, ◌&&◌, Bool, true, false, List, [], ◌∷◌, Option, Some, None, codes}
 use Rattle.std.specs.List.{list_all}
 use Rattle.std.specs.Option.{option_or, option_map, option_and_then}
 use Rattle.std.specs.Str.{bytes_eq}
 use Rattle.sm_text.specs.Tokens.{begins_run}
 use Rattle.sm_agents.specs.Sound.{is_single}
 use Rattle.sm_agents.specs.declared.kinds.Kind.{Kind}
-use Rattle.sm_agents.specs.declared.kinds.Kind.TheVariants.{Roommates}
+use Rattle.sm_agents.specs.declared.kinds.Kind.TheVariants.{Marriage, Hospitals, Roommates}
 use Rattle.sm_agents.specs.declared.kinds.Side.{Side}
 use Rattle.sm_agents.specs.declared.kinds.Side.TheVariants.{Proposers, Reviewers}
 use Rattle.sm_forms.specs.declared.forms.Condition.{Condition}
