@@ -1,5 +1,5 @@
 -- The lines of an answer of `weight` behind its flows.
-use Rattle.std.proofs.Common.{◌≡◌, ℕ, ◌==◌, ◌||◌, ◌⊎◌, inl, inr, arith, refl, sym, ap, ◌∙◌, Bool, true, false, List, [], ◌∷◌, ◌++◌, map, Option, Some, None, if◌then◌else◌, subst, append_assoc, ℤ}
+use Rattle.std.proofs.Common.{◌≡◌, ℕ, ◌==◌, ◌||◌, ◌⊎◌, inl, inr, arith, refl, sym, ap, ◌∙◌, Bool, true, false, List, [], ◌∷◌, ◌++◌, map, Option, Some, None, if◌then◌else◌, subst, append_assoc, append-nil, ℤ}
 use Rattle.std.specs.Prelude.{filter_map}
 use Rattle.std.specs.List.{cons_option, list_all, list_any}
 use Rattle.std.proofs.lemmas.Bool.{false≢true, and_from}
@@ -16,7 +16,7 @@ use Rattle.sm_check_forms.specs.Keywords.{keyword_number}
 use Rattle.sm_report.specs.Keywords.{keyword_of}
 use Rattle.sm_check_forms.specs.Layouts.{begins, behind, left_behind, is_empty, is_whole}
 use Rattle.sm_check_forms.specs.Forms.{closing, opening_of}
-use Rattle.sm_check_clauses.specs.Said.{taken_in, value_in, second_value_in, total_in, second_total_in, is_up_to_rotations}
+use Rattle.sm_check_clauses.specs.Said.{taken_in, value_in, second_value_in, cut_in, second_cut_in, total_in, second_total_in, is_up_to_rotations}
 use Rattle.sm_cert.proofs.GroupLemmas.{AllOut, Tells, Parted, goes, all_down, none_said, none_up}
 use Rattle.sm_cert.proofs.RotationLines.{Splits, one_split}
 
@@ -275,24 +275,36 @@ three_lines lines whole =
       whole = c.whole;
     }
 
--- One total is said, and the first set that is taken is that of its line.
+-- One value, one cut and one total are said, and the first set that is taken is that of its line.
 
-totals : ℕ → Bool
-totals n = n == 14
+figures : ℕ → Bool
+figures n = n == 12 || (n == 13 || n == 14)
 
-abbrev is_total : LineData → Bool
-is_total (LineData.Total weight) = true
-is_total _ = false
+abbrev is_figure : LineData → Bool
+is_figure (LineData.Value value) = true
+is_figure (LineData.Cut value) = true
+is_figure (LineData.Total weight) = true
+is_figure _ = false
 
-total_tells : Tells totals is_total
-unfolding totals
-total_tells = record { other = refl; same = same }
+figure_tells : Tells figures is_figure
+unfolding figures
+figure_tells = record { other = refl; same = same }
   where
-    same : (x : LineData) → (is_total x ≡ totals (keyword_number (keyword_of x))) ⊎ (keyword_number (keyword_of x) ≡ 21)
+    same : (x : LineData) → (is_figure x ≡ figures (keyword_number (keyword_of x))) ⊎ (keyword_number (keyword_of x) ≡ 21)
+    same (LineData.Value value) = inl refl
+    same (LineData.Cut value) = inl refl
     same (LineData.Total weight) = inl refl
     same _ = inl refl
 
-no_total : (x : LineData) → is_total x ≡ false → total_in x ≡ None
+no_value : (x : LineData) → is_figure x ≡ false → value_in x ≡ None
+no_value (LineData.Value value) e = absurd (false≢true (sym e))
+no_value _ e = refl
+
+no_cut : (x : LineData) → is_figure x ≡ false → cut_in x ≡ None
+no_cut (LineData.Cut value) e = absurd (false≢true (sym e))
+no_cut _ e = refl
+
+no_total : (x : LineData) → is_figure x ≡ false → total_in x ≡ None
 no_total (LineData.Total weight) e = absurd (false≢true (sym e))
 no_total _ e = refl
 
@@ -304,9 +316,17 @@ no_value_up : (x : LineData) → is_up_to_flows x ≡ true → value_in x ≡ No
 no_value_up (LineData.Value value) e = absurd (false≢true e)
 no_value_up _ e = refl
 
+no_cut_up : (x : LineData) → is_up_to_flows x ≡ true → cut_in x ≡ None
+no_cut_up (LineData.Cut value) e = absurd (false≢true e)
+no_cut_up _ e = refl
+
 no_second_value_up : (x : LineData) → is_up_to_flows x ≡ true → second_value_in x ≡ None
 no_second_value_up (LineData.SecondValue value) e = absurd (false≢true e)
 no_second_value_up _ e = refl
+
+no_second_cut_up : (x : LineData) → is_up_to_flows x ≡ true → second_cut_in x ≡ None
+no_second_cut_up (LineData.SecondCut value) e = absurd (false≢true e)
+no_second_cut_up _ e = refl
 
 no_second_total_up : (x : LineData) → is_up_to_flows x ≡ true → second_total_in x ≡ None
 no_second_total_up (LineData.SecondTotal weight) e = absurd (false≢true e)
@@ -316,22 +336,34 @@ no_taken_up : (x : LineData) → is_up_to_flows x ≡ true → taken_in x ≡ No
 no_taken_up (LineData.Taken taken) e = absurd (false≢true e)
 no_taken_up _ e = refl
 
-second_totals : ℕ → Bool
-second_totals n = n == 32
+second_figures : ℕ → Bool
+second_figures n = n == 30 || (n == 31 || n == 32)
 
-abbrev is_second_total : LineData → Bool
-is_second_total (LineData.SecondTotal weight) = true
-is_second_total _ = false
+abbrev is_second_figure : LineData → Bool
+is_second_figure (LineData.SecondValue value) = true
+is_second_figure (LineData.SecondCut value) = true
+is_second_figure (LineData.SecondTotal weight) = true
+is_second_figure _ = false
 
-second_total_tells : Tells second_totals is_second_total
-unfolding second_totals
-second_total_tells = record { other = refl; same = same }
+second_figure_tells : Tells second_figures is_second_figure
+unfolding second_figures
+second_figure_tells = record { other = refl; same = same }
   where
-    same : (x : LineData) → (is_second_total x ≡ second_totals (keyword_number (keyword_of x))) ⊎ (keyword_number (keyword_of x) ≡ 21)
+    same : (x : LineData) → (is_second_figure x ≡ second_figures (keyword_number (keyword_of x))) ⊎ (keyword_number (keyword_of x) ≡ 21)
+    same (LineData.SecondValue value) = inl refl
+    same (LineData.SecondCut value) = inl refl
     same (LineData.SecondTotal weight) = inl refl
     same _ = inl refl
 
-no_second_total : (x : LineData) → is_second_total x ≡ false → second_total_in x ≡ None
+no_second_value : (x : LineData) → is_second_figure x ≡ false → second_value_in x ≡ None
+no_second_value (LineData.SecondValue value) e = absurd (false≢true (sym e))
+no_second_value _ e = refl
+
+no_second_cut : (x : LineData) → is_second_figure x ≡ false → second_cut_in x ≡ None
+no_second_cut (LineData.SecondCut value) e = absurd (false≢true (sym e))
+no_second_cut _ e = refl
+
+no_second_total : (x : LineData) → is_second_figure x ≡ false → second_total_in x ≡ None
 no_second_total (LineData.SecondTotal weight) e = absurd (false≢true (sym e))
 no_second_total _ e = refl
 
@@ -348,18 +380,32 @@ module _ {two : Bool} {lines : List LineData} (f : FourLines two lines) where
   pub no_second_value_above : filter_map second_value_in f.above ≡ []
   no_second_value_above = none_up is_up_to_flows second_value_in no_second_value_up f.above f.ups
 
-  total_out : (b : Bool) → AllOut totals (behind_total b)
-  unfolding totals
-  total_out true = ((refl, refl), ((refl, refl), ((refl, refl), ((refl, refl), ((refl, refl), tt)))))
-  total_out false = ((refl, refl), ((refl, refl), tt))
+  figures_out : (b : Bool) → AllOut figures (behind_total b)
+  unfolding figures
+  figures_out true = ((refl, refl), ((refl, refl), ((refl, refl), ((refl, refl), ((refl, refl), tt)))))
+  figures_out false = ((refl, refl), ((refl, refl), tt))
 
-  -- all lines together say one total
+  -- what neither the lines up to the flows nor those behind the total say is said by the four lines alone
+  one_figure : {X : Type 0} (said : LineData → Option X) → ((x : LineData) → is_up_to_flows x ≡ true → said x ≡ None) → ((x : LineData) → is_figure x ≡ false → said x ≡ None)
+      → filter_map said lines ≡ filter_map said (LineData.Taken f.taken ∷ LineData.Value f.value ∷ LineData.Cut f.cut ∷ LineData.Total f.total ∷ [])
+  one_figure said up other =
+      let four : List LineData = LineData.Taken f.taken ∷ LineData.Value f.value ∷ LineData.Cut f.cut ∷ LineData.Total f.total ∷ [] in
+      ap (filter_map said) f.is
+      ∙ filter_map-append said f.above (four ++ f.below)
+      ∙ ap (λ xs. xs ++ filter_map said (four ++ f.below)) (none_up is_up_to_flows said up f.above f.ups)
+      ∙ filter_map-append said four f.below
+      ∙ ap (λ xs. filter_map said four ++ xs) (none_said is_figure said other f.below (all_down figure_tells (behind_total two) f.below (figures_out two) f.whole))
+      ∙ append-nil (filter_map said four)
+
+  -- all lines together say one value, one cut and one total
+  pub one_value : filter_map value_in lines ≡ f.value ∷ []
+  one_value = one_figure value_in no_value_up no_value
+
+  pub one_cut : filter_map cut_in lines ≡ f.cut ∷ []
+  one_cut = one_figure cut_in no_cut_up no_cut
+
   pub one_total : filter_map total_in lines ≡ f.total ∷ []
-  one_total =
-      ap (filter_map total_in) f.is
-      ∙ filter_map-append total_in f.above (LineData.Taken f.taken ∷ LineData.Value f.value ∷ LineData.Cut f.cut ∷ LineData.Total f.total ∷ f.below)
-      ∙ ap (λ xs. xs ++ f.total ∷ filter_map total_in f.below) (none_up is_up_to_flows total_in no_total_up f.above f.ups)
-      ∙ ap (λ xs. f.total ∷ xs) (none_said is_total total_in no_total f.below (all_down total_tells (behind_total two) f.below (total_out two) f.whole))
+  one_total = one_figure total_in no_total_up no_total
 
   pub flows_out : (b : Bool) → AllOut flows_words (behind_total b)
   flows_out true = ((refl, refl), ((refl, refl), ((refl, refl), ((refl, refl), ((refl, refl), tt)))))
@@ -375,12 +421,32 @@ module _ {two : Bool} {lines : List LineData} (f : FourLines two lines) where
     downs = (refl, (refl, (refl, (refl, all_down flows_tell (behind_total two) f.below (flows_out two) f.whole))));
   }
 
-  -- in two levels they say one second total
+  second_figures_out : AllOut second_figures pairs_left
+  unfolding second_figures
+  second_figures_out = ((refl, refl), ((refl, refl), tt))
+
+  -- what in two levels neither the lines up to the first total nor those behind the second one say is said by the three lines alone
+  one_second_figure : (t : ThreeLines f.below) → {X : Type 0} (said : LineData → Option X) → ((x : LineData) → is_up_to_flows x ≡ true → said x ≡ None) → ((x : LineData) → is_second_figure x ≡ false → said x ≡ None)
+      → filter_map said lines ≡ filter_map said (LineData.SecondValue t.value ∷ LineData.SecondCut t.cut ∷ LineData.SecondTotal t.total ∷ [])
+  one_second_figure t said up other =
+      let four : List LineData = LineData.Taken f.taken ∷ LineData.Value f.value ∷ LineData.Cut f.cut ∷ LineData.Total f.total ∷ [] in
+      let three : List LineData = LineData.SecondValue t.value ∷ LineData.SecondCut t.cut ∷ LineData.SecondTotal t.total ∷ [] in
+      ap (filter_map said) f.is
+      ∙ filter_map-append said f.above (four ++ f.below)
+      ∙ ap (λ xs. xs ++ filter_map said (four ++ f.below)) (none_up is_up_to_flows said up f.above f.ups)
+      ∙ filter_map-append said four f.below
+      ∙ ap (λ xs. xs ++ filter_map said f.below) (none_said is_second_figure said other four (refl, (refl, (refl, (refl, tt)))))
+      ∙ ap (filter_map said) t.is
+      ∙ filter_map-append said three t.below
+      ∙ ap (λ xs. filter_map said three ++ xs) (none_said is_second_figure said other t.below (all_down second_figure_tells pairs_left t.below second_figures_out t.whole))
+      ∙ append-nil (filter_map said three)
+
+  -- in two levels they say one second value, cut and total
+  pub one_second_value : (t : ThreeLines f.below) → filter_map second_value_in lines ≡ t.value ∷ []
+  one_second_value t = one_second_figure t second_value_in no_second_value_up no_second_value
+
+  pub one_second_cut : (t : ThreeLines f.below) → filter_map second_cut_in lines ≡ t.cut ∷ []
+  one_second_cut t = one_second_figure t second_cut_in no_second_cut_up no_second_cut
+
   pub one_second_total : (t : ThreeLines f.below) → filter_map second_total_in lines ≡ t.total ∷ []
-  unfolding second_totals
-  one_second_total t =
-      ap (filter_map second_total_in) f.is
-      ∙ filter_map-append second_total_in f.above (LineData.Taken f.taken ∷ LineData.Value f.value ∷ LineData.Cut f.cut ∷ LineData.Total f.total ∷ f.below)
-      ∙ ap (λ xs. xs ++ filter_map second_total_in f.below) (none_up is_up_to_flows second_total_in no_second_total_up f.above f.ups)
-      ∙ ap (filter_map second_total_in) t.is
-      ∙ ap (λ xs. t.total ∷ xs) (none_said is_second_total second_total_in no_second_total t.below (all_down second_total_tells pairs_left t.below ((refl, refl), ((refl, refl), tt)) t.whole))
+  one_second_total t = one_second_figure t second_total_in no_second_total_up no_second_total

@@ -18,7 +18,7 @@ use Rattle.sm_market.specs.Stable.{IsStable}
 use Rattle.sm_theory.specs.Vectors.{IsAllowed}
 use Rattle.sm_theory.specs.ClosedSets.{IsClosed, matching_of}
 use Rattle.sm_theory.specs.Net.{Net, HasEdge, cut_of}
-use Rattle.sm_theory.specs.Flows.{IsResidualReach}
+use Rattle.sm_theory.specs.Flows.{IsResidualReach, flow_value}
 use Rattle.sm_theory.specs.FlowLines.{amount_on, amount_from, IsNewEdge, IsWithinRoom, IsConserved}
 use Rattle.sm_theory.specs.Conditions.{net_of, IsNetGround, IsLightestAllowed}
 use Rattle.sm_theory.specs.SecondNets.{second_net_of, IsLightestOfTwo}
@@ -46,14 +46,14 @@ use Rattle.sm_check_clauses.specs.declared.verdicts.Reason.{Reason}
 use Rattle.sm_check_clauses.specs.declared.verdicts.Reason.TheVariants as reason
 use Rattle.sm_check_forms.specs.Layouts.{is_whole}
 use Rattle.sm_check_forms.specs.Forms.{weight_layout, layouts_of, opening_of}
-use Rattle.sm_check_clauses.specs.Said.{first_in, firsts_in, rotation_in, rotations_in, needs_in, all_needs_in, flow_in, flows_in, second_flow_in, taken_in, value_in, second_value_in, pair_in, pairs_in, first_said, is_up_to_firsts, is_up_to_rotations}
+use Rattle.sm_check_clauses.specs.Said.{first_in, firsts_in, rotation_in, rotations_in, needs_in, all_needs_in, flow_in, flows_in, second_flow_in, taken_in, value_in, cut_in, second_value_in, second_cut_in, pair_in, pairs_in, first_said, is_up_to_firsts, is_up_to_rotations}
 use Rattle.sm_check_clauses.specs.SeatMatchings.{seat_places_in, first_of}
 use Rattle.sm_check_clauses.specs.Pairs.{IsWanted, AreAllThere}
-use Rattle.sm_check_clauses.specs.Flows.{Level, net_in, on_nodes, flow_of, first_level, second_level, last_level, LevelHolds, set_of_numbers, taken_set, taken_matching}
+use Rattle.sm_check_clauses.specs.Flows.{Level, on_nodes, first_level, second_level, last_level, LevelHolds, set_of_numbers, taken_matching}
 use Rattle.sm_check_clauses.specs.Judging.{answer, Clauses}
 use Rattle.sm_check_weight.proofs.ShownEdges.{shown_edges_on_nodes}
 use Rattle.sm_check_weight.proofs.SecondLemmas.{second_edges_on_nodes}
-use Rattle.sm_cert.specs.Yes.{ArePairsOf, GetsYes, IsChainWritten, IsFullFlow, HasLightestWeight, WeightYes}
+use Rattle.sm_cert.specs.Yes.{ArePairsOf, GetsYes, IsChainWritten, IsFullFlow, IsFullLevel, IsReachOf, HasLightestWeight, WeightYes}
 use Rattle.sm_instance.specs.Lightest.{IsLightestByBoth}
 use Rattle.sm_cert.proofs.ChosenYes.{AreWanted, none_wanted, one_wanted, all_wanted}
 use Rattle.sm_cert.proofs.FlowYes.{IsSoundFlow, no_flow, one_flow}
@@ -61,7 +61,7 @@ use Rattle.sm_cert.proofs.GroupLemmas.{AllOut, Begins, Parted, parted_behind, sa
 use Rattle.sm_cert.proofs.RotationLines.{rotation_words, rotations_tell, needs_in-none, first_up, rotation_up, Kind, Spot, left_at, Turns, turns, turns_from}
 use Rattle.sm_cert.proofs.RotationsYes.{IsGround, HasChain, first_written, ground}
 use Rattle.sm_cert.proofs.SeatYes.{first_words, firsts_tell}
-use Rattle.sm_cert.proofs.WeightLines.{flow_words, flow_tells, is_up_to_flow, is_up_to_flows, total_words, is_up_to_totals, totals_tell, behind_total, behind_flows, behind_rotations, FourLines, four_lines, ThreeLines, three_lines, no_taken_above, no_value_above, no_second_value_above, one_total, one_second_total, flows_parted}
+use Rattle.sm_cert.proofs.WeightLines.{flow_words, flow_tells, is_up_to_flow, is_up_to_flows, total_words, is_up_to_totals, totals_tell, behind_total, behind_flows, behind_rotations, FourLines, four_lines, ThreeLines, three_lines, no_taken_above, no_value_above, no_second_value_above, one_value, one_cut, one_total, one_second_value, one_second_cut, one_second_total, flows_parted}
 use Rattle.sm_cert.proofs.YesLines.{IsRight, by_head, right_two, at_line, at_closing, said_above, grown}
 
 -- What the lines of an answer say of the market of seats.
@@ -376,14 +376,11 @@ module _ (w : Written) (by : Measure) (lines : List LineData) (r : IsRight (answ
   level_is : (above : List LineData) (b : Bool) → two ≡ b → last_level w by above ≡ (if b then second_level w by above else first_level w by above)
   level_is above b e = ap (λ (c : Bool). if c then second_level w by above else first_level w by above) (is_two ∙ e)
 
-  abbrev IsReachOf : Level → Type 0
-  IsReachOf level = IsResidualReach level.net (amount_on (flow_of w level r.front)) (taken_set w r.front)
-
   -- the set is the reach in the net of the last level
   last_reach : (b : Bool) → two ≡ b → IsLastReach w by b whole
-  last_reach b e = go b (subst IsReachOf (level_is r.front b e) ((at_closing r reason.NotLeast).4 refl))
+  last_reach b e = go b (subst (λ (level : Level). IsReachOf w level r.front) (level_is r.front b e) ((at_closing r reason.NotLeast).4 refl))
     where
-      go : (b : Bool) → IsReachOf (if b then second_level w by r.front else first_level w by r.front) → IsLastReach w by b whole
+      go : (b : Bool) → IsReachOf w (if b then second_level w by r.front else first_level w by r.front) r.front → IsLastReach w by b whole
       go true h = subst (λ (d : Read). IsLastReach w by true d) read_closing h
       go false h = subst (λ (d : Read). IsLastReach w by false d) read_closing h
 
@@ -602,8 +599,27 @@ module _ (w : Written) (by : Measure) (lines : List LineData) (i : IsInstance w)
       c : IsCertified w by d
       c = certified w by lines r is_two f q net
 
-      as_read : IsFullFlow (net_by w by d) (flow_by w by d) (set_by w by d) → IsFullFlow (net_in w by lines) (flow_of w (first_level w by lines) lines) (taken_set w lines)
-      as_read h = subst (λ (d : Read). IsFullFlow (net_by w by d) (flow_by w by d) (set_by w by d)) (read_all w by lines r is_two f) h
+      -- the levels as they are read of all lines
+      first_full : IsFullLevel w (first_level w by lines) lines
+      first_full =
+          let filled : IsFullFlow (net_by w by d) (flow_by w by d) (set_by w by d) = full_flow c.filled in
+          let value : filter_map value_in lines ≡ flow_value (net_by w by d) (amount_on (flow_by w by d)) ∷ [] =
+          one_value f ∙ ap (λ (n : ℕ). n ∷ []) (value_is w by lines r is_two f ∙ full w by lines r is_two f ∙ sym filled.full) in
+          let cut : filter_map cut_in lines ≡ cut_of (net_by w by d) (set_by w by d) ∷ [] = one_cut f ∙ ap (λ (n : ℕ). n ∷ []) (cut_is w by lines r is_two f) in
+          record {
+            flow = subst (λ (d : Read). IsFullFlow (net_by w by d) (flow_by w by d) (set_by w by d)) (read_all w by lines r is_two f) filled;
+            value = subst (λ (d : Read). filter_map value_in lines ≡ flow_value (net_by w by d) (amount_on (flow_by w by d)) ∷ []) (read_all w by lines r is_two f) value;
+            cut = subst (λ (d : Read). filter_map cut_in lines ≡ cut_of (net_by w by d) (set_by w by d) ∷ []) (read_all w by lines r is_two f) cut;
+          }
+
+      reach : (b : Bool) → two ≡ b → IsReachOf w (last_level w by lines) lines
+      reach b e =
+          subst (λ (level : Level). IsReachOf w level lines) (sym (level_is w by lines r is_two f lines b e))
+          (go b (subst (λ (d : Read). IsLastReach w by b d) (read_all w by lines r is_two f) (last_reach w by lines r is_two f b e)))
+        where
+          go : (b : Bool) → IsLastReach w by b (read w by lines) → IsReachOf w (if b then second_level w by lines else first_level w by lines) lines
+          go true h = h
+          go false h = h
 
       by_level : (b : Bool) → two ≡ b → HasLightestWeight by w lines
       by_level false e = record {
@@ -612,22 +628,33 @@ module _ (w : Written) (by : Measure) (lines : List LineData) (i : IsInstance w)
         lightest = lightest_in w by s d c false (is_two ∙ e) (last_reach w by lines r is_two f false e);
         total = one_total f ∙ ap (λ (n : ℤ). n ∷ []) (total_is w by lines r is_two f);
         second_total = λ two. absurd (false≢true (sym (is_two ∙ e) ∙ two));
-        flow = as_read (full_flow c.filled);
+        flow = first_full;
         second_flow = λ two. absurd (false≢true (sym (is_two ∙ e) ∙ two));
+        reach = reach false e;
         written = written w by lines r is_two f z;
       }
       by_level true e =
           let u : Parted is_up_to_flow lines = parted_behind flow_tells {w = w} {head = HeadData.Weight by} (weight_layout true) (layout ∙ ap (λ (b : Bool). weight_layout b ∷ []) e) flow_begins refl g in
           let three : ThreeLines f.below = three_lines f.below (subst (λ (b : Bool). is_whole (behind_total b ∷ []) (map opening_of f.below) ≡ true) e f.whole) in
           let second = second_filled w by lines r is_two f q net e u three in
+          let filled : IsFullFlow (second_net_by w by d) (second_flow_by w by d) (set_by w by d) = full_flow second in
+          let value : filter_map second_value_in lines ≡ flow_value (second_net_by w by d) (amount_on (second_flow_by w by d)) ∷ [] =
+          one_second_value f three ∙ ap (λ (n : ℕ). n ∷ []) (second_value_is w by lines r is_two f q net e u three ∙ second_full w by lines r is_two f q net e u three ∙ sym filled.full) in
+          let cut : filter_map second_cut_in lines ≡ cut_of (second_net_by w by d) (set_by w by d) ∷ [] = one_second_cut f three ∙ ap (λ (n : ℕ). n ∷ []) (second_cut_is w by lines r is_two f q net e u three) in
+          let second_level_full : IsFullLevel w (second_level w by lines) lines = record {
+            flow = subst (λ (d : Read). IsFullFlow (second_net_by w by d) (second_flow_by w by d) (set_by w by d)) (read_all w by lines r is_two f) filled;
+            value = subst (λ (d : Read). filter_map second_value_in lines ≡ flow_value (second_net_by w by d) (amount_on (second_flow_by w by d)) ∷ []) (read_all w by lines r is_two f) value;
+            cut = subst (λ (d : Read). filter_map second_cut_in lines ≡ cut_of (second_net_by w by d) (set_by w by d) ∷ []) (read_all w by lines r is_two f) cut;
+          } in
           record {
             chain = chain;
             places = places_by w by d;
             lightest = lightest_in w by s d c true (is_two ∙ e) (second, last_reach w by lines r is_two f true e);
             total = one_total f ∙ ap (λ (n : ℤ). n ∷ []) (total_is w by lines r is_two f);
             second_total = λ _. one_second_total f three ∙ ap (λ (n : ℤ). n ∷ []) (second_total_is w by lines r is_two f q net e u three);
-            flow = as_read (full_flow c.filled);
-            second_flow = λ _. subst (λ (d : Read). IsFullFlow (second_net_by w by d) (second_flow_by w by d) (set_by w by d)) (read_all w by lines r is_two f) (full_flow second);
+            flow = first_full;
+            second_flow = λ _. second_level_full;
+            reach = reach true e;
             written = written w by lines r is_two f z;
           }
 

@@ -16,7 +16,7 @@ use Rattle.sm_market.specs.Stable.{IsProposersBest, IsReviewersBest}
 use Rattle.sm_market.specs.Reduced.{reduced_lists_of}
 use Rattle.sm_theory.specs.Chains.{IsPrintedChain, AreNeedsOf}
 use Rattle.sm_theory.specs.Net.{Net, cut_of}
-use Rattle.sm_theory.specs.Flows.{IsFlow, flow_value}
+use Rattle.sm_theory.specs.Flows.{IsFlow, flow_value, IsResidualReach}
 use Rattle.sm_theory.specs.FlowLines.{amount_on}
 use Rattle.sm_theory.specs.declared.flow_lines.FlowLine.{FlowLine}
 use Rattle.sm_theory.specs.Listings.{IsBehind, end_of}
@@ -38,7 +38,7 @@ use Rattle.sm_check_clauses.specs.Said.{pairs_in, firsts_in, lasts_in, proposer_
 use Rattle.sm_check_clauses.specs.Chain.{HasOneEach, owners, IsRowOf}
 use Rattle.sm_check_clauses.specs.Rooming.{members_of, HasOddParty}
 use Rattle.sm_check_clauses.specs.Judging.{Holds}
-use Rattle.sm_check_clauses.specs.Flows.{net_in, flow_of, first_level, second_level, taken_set}
+use Rattle.sm_check_clauses.specs.Flows.{Level, flow_of, first_level, second_level, last_level, taken_set}
 use Rattle.sm_instance.specs.Lightest.{IsLightestByBoth}
 
 -- an answer with this head that gets a yes
@@ -186,18 +186,28 @@ pub record IsFullFlow (net : Net) (lines : List FlowLine) (set : List Bool) : Ty
   pub is_flow : IsFlow net (amount_on lines)
   pub full : flow_value net (amount_on lines) ≡ cut_of net set
 
+-- what is written of a level's flow: it fills the cut of the set that is taken, and its value and the cut are written, each once
+pub record IsFullLevel (w : Written) (level : Level) (lines : List LineData) : Type 0 where
+  pub flow : IsFullFlow level.net (flow_of w level lines) (taken_set w lines)
+  pub value : filter_map level.value lines ≡ flow_value level.net (amount_on (flow_of w level lines)) ∷ []
+  pub cut : filter_map level.cut lines ≡ cut_of level.net (taken_set w lines) ∷ []
+
+-- the set that is taken is the reach of a level's flow: the nodes that it can still lead to from the source
+abbrev pub IsReachOf : Written → Level → List LineData → Type 0
+IsReachOf w level lines = IsResidualReach level.net (amount_on (flow_of w level lines)) (taken_set w lines)
+
 -- the chain with what its rotations need, as in an answer of `rotations`; and an allowed stable matching than which none is lighter by
 -- both sums, the best for the proposers of those that have its sums, with these; the flow that is written fills the cut of the set that
--- is taken, and in two levels the second flow does so in its second net
+-- is taken, and in two levels the second flow does so in its second net; and this set is the reach of the last of these flows
 pub record HasLightestWeight (by : Measure) (w : Written) (lines : List LineData) : Type 0 where
   pub chain : IsChainWritten w lines
   pub places : List (Option ℕ)
   pub lightest : IsLightestByBoth by w places
   pub total : filter_map total_in lines ≡ weight_of by w places ∷ []
   pub second_total : has_two_levels by w ≡ true → filter_map second_total_in lines ≡ second_of by w places ∷ []
-  pub flow : IsFullFlow (net_in w by lines) (flow_of w (first_level w by lines) lines) (taken_set w lines)
-  pub second_flow : has_two_levels by w ≡ true
-      → IsFullFlow (second_level w by lines).net (flow_of w (second_level w by lines) lines) (taken_set w lines)
+  pub flow : IsFullLevel w (first_level w by lines) lines
+  pub second_flow : has_two_levels by w ≡ true → IsFullLevel w (second_level w by lines) lines
+  pub reach : IsReachOf w (last_level w by lines) lines
   pub written : ArePairsOf (lists_of w.proposers) places (pairs_in lines)
 
 -- a yes on `weight`

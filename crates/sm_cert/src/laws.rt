@@ -80,9 +80,9 @@ pub fn rotations_yes()
 {}
 
 /// Where an answer of `weight` gets a yes, its pairs are those of a stable matching that the conditions allow and than which no
-/// other is lighter, and of the lightest ones that which is best for all proposers; its totals are the weights of it, and its flows
-/// fill the cuts of the set that it takes. Its first matching, its chain and what the rotations need are as in an answer of
-/// `rotations`.
+/// other is lighter, and of the lightest ones that which is best for all proposers; its totals are the weights of it. In each level
+/// its flow fills the cut of the set that it takes, and the value and the cut that it writes are theirs; this set is the reach of
+/// the last flow. Its first matching, its chain and what the rotations need are as in an answer of `rotations`.
 pub fn weight_yes()
     ensures { WeightYes }
 {}

@@ -38,7 +38,7 @@ pub fn regret_agrees()
     ensures { RegretAgrees }
 {}
 
-/// The text of a right answer of `weight` gets a yes, where its lines are of the instance.
+/// The text of a right answer of `weight` gets a yes, where the lists of the seats have no more entries than `check` takes.
 pub fn weight_agrees()
     ensures { WeightAgrees }
 {}
