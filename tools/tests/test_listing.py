@@ -146,7 +146,7 @@ class Listing(unittest.TestCase):
         for script, status, what in (
                 ('echo refused WrongKind 1; exit 1', 1, 'the program says: refused WrongKind 1'),
                 ('echo usage 2; exit 2', 2, 'the program says: usage 2'), ('exit 4', 4, 'ended with 4: there was no memory'),
-                ('exit 70', 70, 'ended with 70: the program wasn\'t built')):
+                ('exit 70', 70, 'ended with 70: there is no program to call')):
             for tool, words in (('list_all', []), ('ranges', ['3'])):
                 got, written, fault = self.call(tool, text, *words, called=self.script('cat >/dev/null\n' + script))
                 self.assertEqual((got, written), (status, ''))

@@ -62,6 +62,15 @@ class Completions(unittest.TestCase):
         self.assertEqual(completed('matchbench --unproved med'), ['median'])
         self.assertEqual(completed('matchbench --explain CutD'), ['CutDiffers'])
 
+    @unittest.skipUnless(shutil.which('fish'), 'fish is missing')
+    def test_fish(self):
+        with tempfile.TemporaryDirectory() as home:
+            for line, words in (('matchbench so', ['solve']), ('matchbench list limit=5 ', ['after=', 'form=json']), ('matchbench check ', []),
+                                ('matchbench --explain CutD', ['CutDiffers'])):
+                done = subprocess.run(['fish', '--no-config', '-c', f'source; complete -C "{line}"'], input=completion('fish').encode(),
+                                      stdout=subprocess.PIPE, env={**os.environ, 'HOME': home}, check=True)
+                self.assertEqual([it.split('\t')[0] for it in done.stdout.decode().splitlines()], words, line)
+
 
 @unittest.skipUnless(release().startswith('current'), 'release/ is not of these sources')
 class Packages(unittest.TestCase):
