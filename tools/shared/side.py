@@ -1,7 +1,7 @@
 """One side of an instance as a table has it: its agents, how many each takes, and whom each lists."""
 import re
 from array import array
-from decimal import Decimal, InvalidOperation
+from decimal import Decimal
 
 from .instance import MOST_AGENTS, MOST_CAPACITY, NUMBER
 from .names import near
@@ -9,6 +9,7 @@ from .table import Faults, folded, key_of
 
 WIDE, RANKS, LONG = 'wide', 'ranks', 'long'
 MARKS = ';,|/'
+DECIMAL = re.compile(r'[+-]?(?:[0-9]+(?:[.,][0-9]*)?|[.,][0-9]+)\Z')
 
 
 class Form:
@@ -278,7 +279,7 @@ class Side:
                 faults.add(self.file, line, f'the {self.called_number(place)} {written[place]!r} is no number')
             else:
                 most = [self.form.has_points and written] + [not is_least for _, is_least in self.then]
-                found[number] = tuple(-it if up else it for it, up in zip(values, most)), line, written
+                found[number] = tuple(it.copy_negate() if up else it for it, up in zip(values, most)), line, written
 
     def called_number(self, place):
         """What faults call a number of a row: the first one, or that of a further column."""
@@ -314,11 +315,7 @@ def capacity_of(text, file, line, faults):
 
 def number_of(text):
     """The number that a cell has, whole or with a fraction behind a point or a comma, or None."""
-    try:
-        number = Decimal(text.replace(',', '.'))
-    except InvalidOperation:
-        return None
-    return number if number.is_finite() else None
+    return Decimal(text.replace(',', '.')) if DECIMAL.match(text) else None
 
 
 def parts_of(cell, mark):
