@@ -425,7 +425,7 @@ class Names(unittest.TestCase):
         for _ in range(300):
             originals = list({''.join(draw.choice('aB1_.- ,éßДЁ中') for _ in range(draw.randint(0, 4))): 0 for _ in range(9)})
             originals += ['x' * 70, 'x' * 71, 'p1', 'p2_']
-            self.assertEqual(matchbench._sound_names(originals, 'p'), sound_names(originals, 'p'))
+            self.assertEqual(matchbench.sound_names(originals, 'p'), sound_names(originals, 'p'))
 
     def test_text(self):
         instance = Instance.hospitals(
