@@ -1,14 +1,16 @@
 """One side of an instance as a table has it: its agents, how many each takes, and whom each lists."""
 import re
 from array import array
-from decimal import Decimal, InvalidOperation
+from decimal import Decimal
 
 from .instance import MOST_AGENTS, MOST_CAPACITY, NUMBER
 from .names import near
 from .table import Faults, folded, key_of
+from .words import many, one_or
 
 WIDE, RANKS, LONG = 'wide', 'ranks', 'long'
 MARKS = ';,|/'
+DECIMAL = re.compile(r'[+-]?(?:[0-9]+(?:[.,][0-9]*)?|[.,][0-9]+)\Z')
 
 
 class Form:
@@ -194,7 +196,7 @@ class Side:
             self.rows = [array('L') for _ in self.rows]
         elif self.strange(whole, other):
             faults.add(self.file, self.table.header.line, f'{self.strange(whole, other)} choice of this table is in {other.file}; '
-                       f'{shown(self.unknown(whole, other))} isn\'t' + self.strange_hint(whole, other))
+                       f'{shown(self.first_unknown(whole, other))} isn\'t' + self.strange_hint(whole, other))
             self.rows = [array('L') for _ in self.rows]
         else:
             for i, cells in columns.items():
@@ -204,10 +206,10 @@ class Side:
                     places = f', or --capacity {title!r} if it has the places' if self.letter == 'r' and self.capacity is None and \
                         all(NUMBER.match(it) for it in cells) else ''
                     faults.add(self.file, self.table.header.line, f'the column {title!r} has {how} name of {other.file}; '
-                               f'{shown(self.unknown(cells, other))} is none; --skip {title!r} leaves the column out{places}')
+                               f'{shown(self.first_unknown(cells, other))} is none; --skip {title!r} leaves the column out{places}')
                     self.left_out.update(cells)
 
-    def unknown(self, cells, other):
+    def first_unknown(self, cells, other):
         """The first of some cells without a name of the other table."""
         return next(it for it in cells if not any(other.knows(part) for part in parts_of(it, self.form.mark)))
 
@@ -229,7 +231,7 @@ class Side:
         `struck` with the agent, as a proposer's and a reviewer's number, isn't listed. The rows are let go.
         """
         self.tell_strange(other, faults)
-        lists, ties = [], []
+        lists, ties, self.unknown = [], [], {}
         for agent, name in enumerate(self.originals):
             found = {}
             for line, cell, written in self.cells_of(agent):
@@ -249,6 +251,9 @@ class Side:
             self.choice_lines.append(array('L', (found[it][1] for it in kept)))
             if self.form.has_points:
                 self.written.append([found[it][2] for it in kept])
+        for place, more in self.unknown.values():
+            if more:
+                faults.texts[place] += f'; {many(more, "more row")} {one_or(more, "has", "have")} it'
         if ties and other.lot is None:
             line, one, two = ties[0]
             names = f'{other.originals[one]!r} and {other.originals[two]!r}'
@@ -264,8 +269,7 @@ class Side:
         if number is None and other.is_away(choice):
             other.pass_over(self.file, line, choice)
         elif number is None:
-            hint = likely(choice, other) if len(faults.texts) < Faults.MOST else ''
-            faults.add(self.file, line, f'{shown(choice)} isn\'t in {other.file}{hint}')
+            self.tell_unknown(other, faults, line, choice)
         elif other is self and number == agent:
             if self.form.kind != RANKS:
                 faults.add(self.file, line, f'{name!r} lists itself')
@@ -278,7 +282,16 @@ class Side:
                 faults.add(self.file, line, f'the {self.called_number(place)} {written[place]!r} is no number')
             else:
                 most = [self.form.has_points and written] + [not is_least for _, is_least in self.then]
-                found[number] = tuple(-it if up else it for it, up in zip(values, most)), line, written
+                found[number] = tuple(it.copy_negate() if up else it for it, up in zip(values, most)), line, written
+
+    def tell_unknown(self, other, faults, line, choice):
+        """Tells of a name that the other table doesn't have; where each row is a choice, only at its first row."""
+        if self.form.kind == LONG and choice in self.unknown:
+            self.unknown[choice][1] += 1
+            return
+        hint = likely(choice, other) if len(faults.texts) < Faults.MOST else ''
+        self.unknown[choice] = [len(faults.texts), 0]
+        faults.add(self.file, line, f'{shown(choice)} isn\'t in {other.file}{hint}')
 
     def called_number(self, place):
         """What faults call a number of a row: the first one, or that of a further column."""
@@ -314,11 +327,7 @@ def capacity_of(text, file, line, faults):
 
 def number_of(text):
     """The number that a cell has, whole or with a fraction behind a point or a comma, or None."""
-    try:
-        number = Decimal(text.replace(',', '.'))
-    except InvalidOperation:
-        return None
-    return number if number.is_finite() else None
+    return Decimal(text.replace(',', '.')) if DECIMAL.match(text) else None
 
 
 def parts_of(cell, mark):

@@ -487,6 +487,8 @@ class Tables(unittest.TestCase):
         self.assertEqual(told.splitlines()[1:], ['p.csv:2: this row has more cells than the first one, which has 2',
                                                  'p.csv:3: \'X\' isn\'t in r.csv; '
                                                  'is \'x\' meant?', 'p.csv:4: \'y1\' isn\'t in r.csv'])
+        told = self.refused(['n,1\na,x\n', 'n,who\nx,b\nx,a\ny,b\nz,b\n'], '--long', 'reviewers')
+        self.assertEqual(told.splitlines()[1:], ['r.csv:2: \'b\' isn\'t in p.csv; 2 more rows have it'])
         told = self.refused(['n,1\n101,x\n', 'n,1\nx,102\n'])
         self.assertEqual(told.splitlines()[1:], ['r.csv:2: \'102\' isn\'t in p.csv'])
 
