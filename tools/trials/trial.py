@@ -7,6 +7,8 @@ import threading
 from .features import features
 from .verdict import RIGHT
 
+# How often a solver is waited for, at most, where it may take too long again.
+MOST_WAITED = 40
 # What one case came to: the case, its result and its features.
 Tried = collections.namedtuple('Tried', 'case result features')
 
@@ -91,7 +93,8 @@ class Trial:
                 return False
             kind.result = result
             return True
-        kind.least, kind.trials = self.smallest(kind.first.case.draft, fails, self.budget)
+        budget = min(self.budget, MOST_WAITED) if kind.key[0] == 'timeout' else self.budget
+        kind.least, kind.trials = self.smallest(kind.first.case.draft, fails, budget)
         kind.alone = self.fails_alone(kind)
 
     def fails_alone(self, kind):
