@@ -19,7 +19,7 @@ from __future__ import annotations
 import difflib
 import importlib
 import operator
-from typing import Any, Callable, Iterator, NamedTuple, Sequence, Tuple
+from typing import Any, Callable, Iterator, List, NamedTuple, Sequence, Tuple
 
 from . import Instance
 from ._draft import Draft
@@ -109,18 +109,18 @@ def instances(kind: str = 'hospitals', most: int = 6) -> Any:
     if kind not in ('marriage', 'hospitals', 'roommates'):
         raise ValueError(f'the kind is {kind!r}, and not \'marriage\', \'hospitals\' or \'roommates\'')
     given = importlib.import_module('hypothesis.strategies')
+    # Agents are numbers here, and those that aren't there go: so agents can be left out one by one.
+    row = given.lists(given.integers(0, max(0, most - 1)), unique=True, max_size=most)
+    places = given.integers(0, 3) if kind == 'hospitals' else given.just(1)
+    side = given.lists(given.tuples(places, row), max_size=most)
 
-    def rows(own: Sequence[str], others: Sequence[str]) -> Any:
-        def row(name: str) -> Any:
-            able = [it for it in others if kind != 'roommates' or it != name]
-            return given.lists(given.sampled_from(able), unique=True, max_size=len(able)) if able else given.just([])
-        return given.fixed_dictionaries({name: row(name) for name in own})
-
-    def of_counts(counts: Tuple[int, int]) -> Any:
-        p, r = named('p', counts[0]), named('r', counts[1])
+    def built(own: Sequence[Tuple[int, List[int]]], other: Sequence[Tuple[int, List[int]]]) -> Instance:
+        p, r = named('p', len(own)), named('r', len(other))
         if kind == 'roommates':
-            return given.builds(lambda it: Draft(kind, it).instance(), rows(p, p))
-        places = given.fixed_dictionaries({it: given.integers(0, 3) if kind == 'hospitals' else given.just(1) for it in r})
-        return given.builds(lambda *parts: Draft(kind, *parts).instance(), rows(p, r), rows(r, p), places)
+            rows = {name: [p[it] for it in row if it < len(p) and p[it] != name] for name, (_, row) in zip(p, own)}
+            return Draft(kind, rows).instance()
+        lists = {name: [r[it] for it in row if it < len(r)] for name, (_, row) in zip(p, own)}
+        rows = {name: [p[it] for it in row if it < len(p)] for name, (_, row) in zip(r, other)}
+        return Draft(kind, lists, rows, {name: count for name, (count, _) in zip(r, other)}).instance()
 
-    return given.tuples(given.integers(0, most), given.integers(0, most)).flatmap(of_counts)
+    return given.builds(built, side, given.just([]) if kind == 'roommates' else side)

@@ -237,13 +237,12 @@ class Strategies(unittest.TestCase):
 
             @hypothesis.settings(max_examples=60, deadline=None, database=None)
             @hypothesis.given(testing.instances(kind, 4))
-            def drawn(instance, kind=kind, seen=seen):
-                self.assertEqual(instance.kind, kind)
-                self.assertLessEqual(len(instance.proposers), 4)
-                self.assertEqual(Draft.of(instance).text(), instance.to_text())
-                seen.append(len(instance.proposers))
+            def drawn(instance):
+                seen.append(instance)
             drawn()
-            self.assertGreater(len(set(seen)), 3)
+            self.assertEqual({it.kind for it in seen}, {kind})
+            self.assertEqual({len(it.proposers) for it in seen}, {0, 1, 2, 3, 4})
+            self.assertTrue(all(Draft.of(it).text() == it.to_text() for it in seen))
         least = hypothesis.find(testing.instances('hospitals', 5), lambda it: any(len(row) > 1 for row in it.proposers.values()))
         self.assertEqual((len(least.proposers), len(least.reviewers)), (1, 2))
 

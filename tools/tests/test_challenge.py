@@ -196,6 +196,7 @@ class Protocols(Case):
 
     def test_rows(self):
         self.assertIsNone(rows_of_table('a,b\nnone\n'))
+        self.assertEqual(rows_of_table('a,b\nnone,\n')[1:], [('row 2', 'none', '')])
         self.assertEqual(rows_of_table('a,b\n\n x , y,z\nw\n'), [('row 1', 'a', 'b'), ('row 3', 'x', 'y'), ('row 4', 'w', '')])
         self.assertEqual(rows_of_line('{"x":"y","w":null}')[1:], [('pair 1', 'x', 'y'), ('pair 2', 'w', '')])
         self.assertEqual(rows_of_line('[["x","y"],["w",null]]')[1:], [('pair 1', 'x', 'y'), ('pair 2', 'w', '')])
@@ -266,6 +267,7 @@ class Words(Case):
                 (['--protocol', 'lines', '--input', 'text', '--', 'x'], 'in JSON'),
                 (['--protocol', 'lines', '--', 'x', '{dir}'], 'in JSON'),
                 (['--only', '1000005', '--', 'x'], 'there is no case 1000005'),
+                (['--cases', '1000001', '--', 'x'], 'a seed has 1,000,000 cases'),
                 (['--corpus', 'x', '--', 'x'], 'no solver is called'),
                 (['--', os.path.join(self.folder, 'none')], 'none can\'t be started: No such file or directory')):
             status, written, fault = self.call(*words)
@@ -289,6 +291,13 @@ class Words(Case):
 
 
 class Reports(Case):
+    def test_twice(self):
+        """A second report in the same folder has nothing of the first."""
+        folder = os.path.join(self.folder, 'report')
+        for name, wanted in (('one_place', True), ('right', False)):
+            self.call('--protocol', 'lines', '--cases', '9', '--report', folder, '--', sys.executable, '-B', GATE, name)
+            self.assertEqual(os.path.exists(os.path.join(folder, 'wrong-Blocked')), wanted)
+
     def test_stop(self):
         report = self.lines('first_come', '--cases', '50', '--stop', '--jobs', '3')[1]
         self.assertEqual(sum(report['counts'].values()), report['failures'][0]['cases'][0] + 1)

@@ -2,6 +2,7 @@
 import json
 import os
 import re
+import shutil
 import subprocess
 import sys
 from xml.sax.saxutils import quoteattr
@@ -22,6 +23,7 @@ class Report:
         self.trial, self.words, self.options = trial, words, options
         self.rows = dict.fromkeys([*(ROOMS if options.rooms else TWO_SIDED)])
         self.kinds = sorted(trial.kinds.values(), key=lambda it: it.first.case.number)
+        self.whys = {it.key: trial.judge.explained(it.least, it.result) for it in self.kinds}
 
     def head(self):
         """How many cases came to what."""
@@ -46,7 +48,7 @@ class Report:
         more = [f'... and {len(text) - MOST_LINES:,} more lines'] if len(text) > MOST_LINES else []
         lines += [f'    {it}' for it in text[:MOST_LINES] + more] + ['']
         lines += told_as('its answer', [self.answer(result)])
-        lines += told_as('what is wrong', self.explained(kind))
+        lines += told_as('what is wrong', self.whys[kind.key])
         if result.kind == 'wrong':
             lines += told_as('right is', [shown_pairs(self.trial.judge.right(kind.least))])
         if not kind.alone:
@@ -61,10 +63,6 @@ class Report:
         text = '; '.join(it for it in result.written.strip().split('\n') if it)
         text = ''.join(it if it.isprintable() else '\ufffd' for it in text)
         return text[:SHOWN] + '...' if len(text) > SHOWN else text or '(nothing)'
-
-    def explained(self, kind):
-        """What is wrong, in lines."""
-        return self.trial.judge.explained(kind.least, kind.result)
 
     def table(self):
         """What was tried, in lines."""
@@ -100,7 +98,7 @@ class Report:
         return {
             'kind': result.kind, 'reason': result.reason, 'cases': kind.numbers, 'shape': case.shape, 'size': case.size,
             'least': json.loads(kind.least.json()), 'text': kind.least.text(), 'answer': result.written, 'pairs': result.pairs,
-            'wrong': self.explained(kind), 'right': self.trial.judge.right(kind.least) if result.kind == 'wrong' else None,
+            'wrong': self.whys[kind.key], 'right': self.trial.judge.right(kind.least) if result.kind == 'wrong' else None,
             'again': self.again(kind), 'folder': folder_of(kind), 'fails_alone': kind.alone,
         }
 
@@ -132,6 +130,7 @@ class Report:
     def write(self, folder):
         """Writes the folder: the report in three forms, and a folder for each kind of failure."""
         os.makedirs(folder, exist_ok=True)
+        forget(folder)
         put(folder, 'report.txt', self.text())
         put(folder, 'report.json', json.dumps(self.value(), indent=1) + '\n')
         put(folder, 'junit.xml', self.junit())
@@ -160,6 +159,18 @@ class Report:
 def folder_of(kind):
     """What the folder of a kind of failure is called."""
     return re.sub(r'[^A-Za-z0-9.-]+', '_', '-'.join(kind.key)).strip('_')
+
+
+def forget(folder):
+    """Takes away the failures of an earlier report in the same folder."""
+    try:
+        with open(os.path.join(folder, 'report.json'), encoding='utf-8') as file:
+            names = [it['folder'] for it in json.load(file)['failures']]
+    except (OSError, ValueError, KeyError, TypeError):
+        return
+    for name in names:
+        if isinstance(name, str) and os.path.isfile(os.path.join(folder, os.path.basename(name), 'what.txt')):
+            shutil.rmtree(os.path.join(folder, os.path.basename(name)))
 
 
 def put(folder, name, text):

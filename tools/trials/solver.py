@@ -192,14 +192,15 @@ def rows_of_table(written):
     """The rows of a table of pairs behind its header row, each with where it stands; None for the one row `none`."""
     try:
         table = enumerate(csv.reader(written.splitlines(), strict=True), 1)
-        rows = [(f'row {number}', [it.strip() for it in row] + ['']) for number, row in table if any(row)]
+        rows = [(f'row {number}', [it.strip() for it in row]) for number, row in table if any(row)]
     except csv.Error as fault:
         raise ValueError(f'this is no table: {fault}') from None
     if not rows:
         raise ValueError('the header row is missing: it wrote nothing')
-    if len(rows) == 2 and rows[1][1][:2] == ['none', '']:
+    # Somebody may be called `none`, and has a second cell then.
+    if len(rows) == 2 and rows[1][1] == ['none']:
         return None
-    return [(where, row[0], row[1]) for where, row in rows]
+    return [(where, *(row + [''])[:2]) for where, row in rows]
 
 
 def rows_of_line(line):

@@ -1,12 +1,19 @@
 """Made instances given to a solver one after the other, and what becomes of them."""
 import collections
 import concurrent.futures
+import itertools
 import queue
 import threading
 
 from .features import features
 from .verdict import RIGHT
 
+# How often a solver is waited for, at most, where it may take too long again.
+MOST_WAITED = 40
+# How many kinds of failure are made smaller.
+MOST_KINDS = 20
+# How many cases are made at a time.
+MADE = 1000
 # What one case came to: the case, its result and its features.
 Tried = collections.namedtuple('Tried', 'case result features')
 
@@ -59,15 +66,20 @@ class Trial:
         """Tries the cases of some numbers, in their order, and shrinks the first failure of each kind. With `at_first` it stops at
         the first failure.
         """
+        numbers = iter(numbers)
         with concurrent.futures.ThreadPoolExecutor(self.jobs) as pool:
             try:
-                for done in pool.map(lambda number: self.one(make(number)), numbers):
-                    self.add(done)
-                    tell(len(self.results), self.counts[RIGHT])
-                    if at_first and done.result.kind != RIGHT:
+                while not self.stopped.is_set():
+                    part = list(itertools.islice(numbers, MADE))
+                    for done in pool.map(lambda number: self.one(make(number)), part):
+                        self.add(done)
+                        tell(len(self.results), self.counts[RIGHT])
+                        if at_first and done.result.kind != RIGHT:
+                            self.stopped.set()
+                            break
+                    if len(part) < MADE:
                         break
-                self.stopped.set()
-                list(pool.map(self.shrink, self.kinds.values()))
+                list(pool.map(self.shrink, list(self.kinds.values())[:MOST_KINDS]))
             finally:
                 self.stopped.set()
 
@@ -91,7 +103,8 @@ class Trial:
                 return False
             kind.result = result
             return True
-        kind.least, kind.trials = self.smallest(kind.first.case.draft, fails, self.budget)
+        budget = min(self.budget, MOST_WAITED) if kind.key[0] == 'timeout' else self.budget
+        kind.least, kind.trials = self.smallest(kind.first.case.draft, fails, budget)
         kind.alone = self.fails_alone(kind)
 
     def fails_alone(self, kind):
