@@ -3,7 +3,8 @@ class ListsView {
   // `sides` has for each table its id, the lists, the names of its agents and of those on their lists, the ranks, and what turns an
   // agent and an entry into a pair; `stable` says whether a pair is in some stable matching, or is null where that isn't known.
   constructor(model, sides, stable, onHand) {
-    Object.assign(this, { model, sides, stable, onHand, built: sides.map(() => new Map()) });
+    Object.assign(this, { model, sides, stable, onHand, built: sides.map(() => new Map()), rows: sides.map(() => []) });
+    this.movable = sides.map(side => side.lists.map((list, own) => !stable || list.filter(it => stable(...side.pair(own, it))).length > 1));
     for (const id of ['onlyMoving', 'onlyStable', 'find']) {
       if ($(id)) $(id).addEventListener('input', () => this.show(...this.last));
     }
@@ -17,14 +18,22 @@ class ListsView {
       const rows = [];
       let left = 0;
       side.names.forEach((name, own) => {
-        const movable = !this.stable || side.lists[own].filter(it => this.stable(...side.pair(own, it))).length > 1;
-        if ((find && !name.toLowerCase().includes(find)) || (on('onlyMoving') && !movable)) return;
+        if ((find && !name.toLowerCase().includes(find)) || (on('onlyMoving') && !this.movable[n][own])) return;
         if (rows.length >= most) { left++; return; }
         rows.push(this.row(n, side, own, of, blocks, hand, on('onlyStable')));
       });
       if (left) rows.push(el('tr', {}, el('td', { colspan: 2 }, `and ${left} more; find a name to see it`)));
-      $(side.id).replaceChildren(...rows);
+      this.put(n, rows);
     });
+  }
+
+  // Puts the rows of a table in their place; where only some differ the others aren't touched.
+  put(n, rows) {
+    const shown = this.rows[n];
+    const same = rows.length === shown.length && rows.every((row, i) => row.dataset.own === shown[i].dataset.own);
+    if (same) rows.forEach((row, i) => { if (row !== shown[i]) shown[i].replaceWith(row); });
+    else $(this.sides[n].id).replaceChildren(...rows);
+    this.rows[n] = rows;
   }
 
   // A row; it stays as it is where nothing on it changed.
@@ -50,7 +59,7 @@ class ListsView {
       return hand && acceptable ? el('button', { ...values, 'aria-pressed': isNow, on: () => this.onHand(p, r) }, name)
         : el('span', values, name);
     });
-    const row = el('tr', {}, el('th', { scope: 'row' }, side.names[own] + (side.places ? side.places(own) : '')),
+    const row = el('tr', { 'data-own': own }, el('th', { scope: 'row' }, side.names[own] + (side.places ? side.places(own) : '')),
       el('td', {}, el('div', { class: 'chips' }, ...chips)));
     this.built[n].set(own, { text, row });
     return row;

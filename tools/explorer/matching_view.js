@@ -6,8 +6,9 @@ class MatchingView {
       el('th', { class: 'n' }, 'its rank there'), el('th', {}, 'before'));
     this.rows = model.pShown.map(name => el('tr', {}, el('td', {}, name), el('td'), el('td', { class: 'n' }),
       el('td', { class: 'n' }), el('td')));
-    this.body = el('tbody', {}, ...this.rows);
-    $('pairs').replaceChildren(el('thead', {}, head), this.body);
+    // Of many rows those that changed stand on top too.
+    this.top = el('tbody');
+    $('pairs').replaceChildren(el('thead', {}, head), this.top, el('tbody', { id: 'all' }, ...this.rows));
   }
 
   // `note` says of which set it is; `extra` are more figures.
@@ -72,8 +73,6 @@ class MatchingView {
       cells[3].textContent = r < 0 ? '' : model.rRank[r].get(p) || '–';
       cells[4].textContent = changed ? model.partner(was[p]) : '';
     });
-    if (rows.length <= 60) return;
-    const order = rows.map((_, p) => p).sort((a, b) => (was[b] !== of[b]) - (was[a] !== of[a]) || a - b);
-    if (order.some((p, i) => this.body.children[i] !== rows[p])) this.body.replaceChildren(...order.map(p => rows[p]));
+    if (rows.length > 60) this.top.replaceChildren(...rows.filter((_, p) => was[p] !== of[p]).map(row => row.cloneNode(true)));
   }
 }

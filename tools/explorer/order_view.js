@@ -5,7 +5,7 @@ class OrderView {
   // `dotted` is the layout that `dot` made, or null; `gainOf` says a rotation's gain, or ''.
   constructor(walk, dotted, gainOf) {
     const model = walk.model;
-    Object.assign(this, { walk, model, gainOf, boxes: model.k <= BOXES, nodes: [], edges: [] });
+    Object.assign(this, { walk, model, gainOf, boxes: model.k <= BOXES, nodes: [], edges: [], states: [] });
     if (!model.k) {
       $('order').replaceChildren(el('p', {}, 'There is no rotation, so there is one stable matching.'));
       return;
@@ -68,13 +68,15 @@ class OrderView {
     $('orderNote').textContent = `${i + 1}: ${this.model.sentence(i)}${gain === '' ? '' : `; gain ${gain}`}. ${does}`;
   }
 
-  endPreview() { this.nodes.forEach(it => it.classList.remove('also')); this.show(); }
+  endPreview() { this.states = []; this.nodes.forEach(it => it.classList.remove('also')); this.show(); }
 
   show() {
     const set = this.walk.closed(), { model } = this;
     this.nodes.forEach((it, i) => {
       const taken = !!set && !!set[i], ready = !!set && model.isReady(set, i), gain = this.gainOf(i);
       const state = taken ? model.isLast(set, i) ? 'taken, can be given back alone' : 'taken' : ready ? 'ready' : 'not ready';
+      if (this.states[i] === state + gain) return;
+      this.states[i] = state + gain;
       it.setAttribute('aria-checked', taken);
       const told = [`rotation ${i + 1}, ${model.sentence(i)}`, `needs ${numbers(model.needs[i]) || 'none'}`, state];
       it.setAttribute('aria-label', (gain === '' ? told : [...told, `gain ${gain}`]).join('; '));

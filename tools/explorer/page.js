@@ -27,6 +27,7 @@ function startBar(show) {
 // In a quiz the answers are hidden, from readers of screens too.
 function hideAnswers() {
   const hidden = document.body.classList.contains('quiz') && !document.body.classList.contains('solved');
+  if ($('solve').hidden === !hidden) return;
   document.querySelectorAll('.answer').forEach(it => { it.inert = hidden; it.setAttribute('aria-hidden', hidden); });
   $('solve').hidden = !hidden;
 }

@@ -73,7 +73,12 @@ function testPage() {
   testPhase(tried);
   testHand(tried);
   $('exportBox').open = true;
-  model.listed.slice(0, 40).forEach((_, i) => { goToListed(i); choose('form', 'check'); claims.push(['check', $('text').value]); });
+  model.listed.slice(0, 40).forEach((_, i) => {
+    goToListed(i);
+    choose('form', 'check');
+    claims.push(['check', $('text').value]);
+    claims.push(['commands', $('commands').querySelector('pre').textContent, csvText(model, walk.of, ['person', 'partner'])]);
+  });
   if (model.listed.length) tried.want('the address has the number',
     location.hash === `#matching=${Math.min(40, model.listed.length)}`);
   hit('q'); tried.want('quiz: answers are hidden', [...document.querySelectorAll('.answer')].every(it => it.inert)); hit('q');

@@ -1,15 +1,18 @@
 // The test of the page of a marriage or hospitals.
 function testRotations(tried) {
-  const begun = performance.now(), nodes = orderView.nodes;
+  const nodes = orderView.nodes;
+  let spent = 0;
   nodes.forEach((node, i) => {
+    const begun = performance.now();
     fire(node);
+    document.body.getBoundingClientRect();
+    spent += performance.now() - begun;
     const taken = nodes.map(it => it.getAttribute('aria-checked') === 'true');
     if (!taken.every((it, j) => !it || model.needs[j].every(l => taken[l]))) tried.want(`closed after rotation ${i + 1}`, false);
     if (!document.querySelector('#verdict .good')) tried.want(`stable after rotation ${i + 1}`, false);
     if (model.answers.list.isWhole && !model.conditions
       && !model.listed.includes(shownVector(model))) tried.want(`listed after rotation ${i + 1}`, false);
   });
-  const each = (performance.now() - begun) / Math.max(1, model.k);
   tried.want('each rotation clicked: closed, stable, listed', !tried.wrong);
   tried.wantEach('what goes along is shown first', nodes.slice(0, 20), node => {
     node.dispatchEvent(new MouseEvent('mouseenter'));
@@ -17,14 +20,17 @@ function testRotations(tried) {
     node.dispatchEvent(new MouseEvent('mouseleave'));
     return also === others.length + 1;
   });
-  return each;
+  return spent / Math.max(1, model.k);
 }
 
 function testJumps(tried) {
   for (const mark of model.marks) {
     const button = document.querySelector(`[data-mark=${mark.id}]`);
-    if (!mark.of) { tried.want(`${mark.label}: greyed, and it says why`,
-      button.disabled && button.title !== '' && $('greyed').textContent.includes(mark.note)); continue; }
+    if (!mark.of) {
+      const isTold = button.title !== '' && $('greyed').textContent.includes(mark.note);
+      tried.want(`${mark.label}: greyed, and it says why`, button.disabled && isTold);
+      continue;
+    }
     fire(button);
     tried.want(`${mark.label}: the program’s matching, stable and allowed`,
       shownVector(model) === model.vectorOf(mark.of) && !!document.querySelector('#verdict .good') &&
@@ -115,7 +121,11 @@ function testExport(tried) {
   $('exportBox').open = true;
   const take = (word, words) => { choose('form', word); claims.push([words, $('text').value]); };
   const sets = rows && model.k && rows.flat().length <= 40 ? rows.flat() : [];
-  for (const set of sets) { walk.goTo(set, 'Tried.'); if (model.isAllowed(walk.now())) take('check', 'check'); }
+  for (const set of sets) {
+    walk.goTo(set, 'Tried.');
+    if (model.isAllowed(walk.now())) take('check', 'check');
+    claims.push(['commands', $('commands').querySelector('pre').textContent, csvText(model, walk.now(), ['proposer', 'reviewer'])]);
+  }
   if (sets.length) {
     hit('1'); hit('a'); hit('2'); hit('b');
     for (const words of ['meet', 'join', 'route']) take('meet', words);

@@ -3,27 +3,31 @@ class StepsView {
   // `traces` are functions, by the words of the choice; each is called when it is first wanted. `ended` says what the last step
   // means.
   constructor(box, traces, ended) {
-    Object.assign(this, { box, traces, ended, made: {}, at: 0, word: Object.keys(traces)[0] });
+    Object.assign(this, { traces, ended, made: {}, at: 0, word: Object.keys(traces)[0] });
     const choice = el('select', { 'aria-label': 'from which side' },
       ...Object.keys(traces).map(word => el('option', { value: word }, word)));
     choice.addEventListener('change', () => { this.word = choice.value; this.go(0); });
     this.range = el('input', { type: 'range', min: 0, value: 0, 'aria-label': 'step' });
     this.range.addEventListener('input', () => this.go(+this.range.value));
     const button = (text, to) => el('button', { on: () => this.go(to()) }, text);
-    this.told = el('p', { class: 'step', 'aria-live': 'polite' });
+    this.told = el('p');
     this.table = el('table', { class: 'lists' });
-    const box2 = $(box);
-    box2.replaceChildren(el('p', { class: 'buttons noprint' }, ...Object.keys(traces).length > 1 ? [choice] : [],
+    $(box).replaceChildren(el('p', { class: 'buttons noprint' }, ...Object.keys(traces).length > 1 ? [choice] : [],
       button('⇤ start', () => 0), button('← back', () => this.at - 1), button('on →', () => this.at + 1),
       button('end ⇥', () => Infinity), this.range), this.told, el('div', { class: 'scroll' }, this.table));
-    this.go(0);
+    this.draw();
   }
 
   trace() { return this.made[this.word] = this.made[this.word] || this.traces[this.word](); }
 
   go(to) {
+    this.at = Math.max(0, Math.min(this.trace().steps.length, to));
+    this.draw();
+    tell(this.told.textContent);
+  }
+
+  draw() {
     const trace = this.trace(), count = trace.steps.length;
-    this.at = Math.max(0, Math.min(count, to));
     this.range.max = count;
     this.range.value = this.at;
     const step = trace.steps[this.at - 1], last = this.at === count;

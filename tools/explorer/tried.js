@@ -23,8 +23,7 @@ const hit = key => document.body.dispatchEvent(new KeyboardEvent('keydown', { ke
 
 // The vector of what the page's table shows.
 function shownVector(model) {
-  const rank = new Map([...$('pairs').querySelectorAll('tbody tr')].map(row => [row.children[0].textContent,
-    row.children[2].textContent]));
+  const rank = new Map([...$('all').children].map(row => [row.children[0].textContent, row.children[2].textContent]));
   return model.P.length ? model.pShown.map(name => rank.get(name)).join(',') : '-';
 }
 

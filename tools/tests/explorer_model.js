@@ -48,6 +48,7 @@ for (const words of ['weight by=ranks', 'weight by=given']) {
   if (!answers[words] || answers[words].whyNot) continue;
   const net = new Net(model, answers[words], null);
   want(`${words}: ${net.fault()}`, !net.fault() && !(net.second && net.second.fault()));
+  for (const set of sets) want('what the conditions forbid has no cost', net.cost(set) < Infinity === model.isAllowed(model.matchingOf(set)));
 }
 console.log(rows ? `${sets.length} matchings, ${model.k} rotations` : `more than 5000 matchings, ${model.k} rotations`);
 console.log(wrong ? `${wrong} failed` : 'passed');

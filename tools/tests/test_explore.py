@@ -44,6 +44,26 @@ def opposed(size, length, seed):
     return '\n'.join(['stable 1 marriage', *lines, 'end', ''])
 
 
+# Of its nine stable matchings three are allowed: those of {1, 5}, {1, 2, 5} and {1, 2, 3, 5}.
+CONDITIONS = example('five_rotations').replace('end\n', '''force eve french
+forbid ann biology
+weight cem drama 3
+weight ben art -5
+end
+''')
+
+
+def written_by(commands, text, table):
+    """What the last of some commands writes, in a folder with the script, the tools, an instance and a table."""
+    with tempfile.TemporaryDirectory() as folder:
+        os.symlink(program.PATH, os.path.join(folder, 'matchbench'))
+        os.symlink(os.path.join(TOP, 'tools'), os.path.join(folder, 'tools'))
+        for name, content in (('instance.txt', text), ('matching.csv', table)):
+            with open(os.path.join(folder, name), 'w', encoding='utf-8') as file:
+                file.write(content)
+        return subprocess.run(['bash', '-c', commands], cwd=folder, stdout=subprocess.PIPE).stdout.decode()
+
+
 def explore(text, *words, names=None, path=None):
     """The status of `explore`, its page and its fault."""
     with tempfile.TemporaryDirectory() as folder:
@@ -98,7 +118,7 @@ def tried(page):
                  f'file://{file}#test']
         if os.geteuid() == 0:
             words.insert(0, '--no-sandbox')
-        done = subprocess.run([BROWSER, *words], stdout=subprocess.PIPE, stderr=subprocess.DEVNULL, timeout=120)
+        done = subprocess.run([BROWSER, *words], stdout=subprocess.PIPE, stderr=subprocess.DEVNULL, timeout=600)
     found = {key: html.unescape(text) for key, text in re.findall(r'<pre id="(\w+)"[^>]*>(.*?)</pre>', done.stdout.decode(), re.S)}
     test = found.get('test', 'the page didn\'t end its test')
     return test, test.split('\n')[-1], json.loads(found.get('claims') or '[]')
@@ -197,13 +217,27 @@ class Browser(unittest.TestCase):
 
     def test_claims(self):
         """What goes out of a page is taken by the program: a yes for each matching, and an answer for each two."""
-        claims = self.passes(page_of(example('five_rotations')))
+        claims = [it for it in self.passes(page_of(example('five_rotations'))) if it[0] != 'commands']
         self.assertEqual([words for words, _ in claims], ['check'] * 9 + ['meet', 'join', 'route'])
         for words, text in claims:
             status, answer = program.ask(text, words)
             self.assertEqual(status, 0, answer)
             if words == 'check':
                 self.assertEqual(answer, 'answer check\nyes\nend\n')
+
+    def test_commands(self):
+        """The two commands that a page shows for a matching make and check it, also where it isn't allowed, and for roommates."""
+        for text, count in ((CONDITIONS, 9), (example('two_by_two'), 2), (example('four_persons'), 2)):
+            shown = [it[1:] for it in self.passes(page_of(text)) if it[0] == 'commands']
+            self.assertEqual(len(shown), count)
+            for commands, table in shown:
+                self.assertEqual(commands.count('\n'), 1)
+                self.assertEqual(written_by(commands, text, table), 'answer check\nyes\nend\n', commands)
+
+    def test_conditions(self):
+        claims = self.passes(page_of(CONDITIONS))
+        self.assertEqual(sum(1 for it in claims if it[0] == 'check'), 3)
+        self.assertEqual(sum(1 for it in claims if 'meet' in it[1].split('\n')[0]), 6)
 
 
 def add_pages():
@@ -221,7 +255,7 @@ add_pages()
 class Model(unittest.TestCase):
     def test_model(self):
         """What needs no document, in `node`: closed sets, matchings, layouts and nets."""
-        for text in (example('five_rotations'), example('hospitals'), example('two_levels'), opposed(30, 8, 1), opposed(60, 12, 3)):
+        for text in (example('five_rotations'), example('hospitals'), example('two_levels'), CONDITIONS, opposed(30, 8, 1)):
             with tempfile.NamedTemporaryFile('w', suffix='.html', encoding='utf-8') as file:
                 file.write(page_of(text))
                 file.flush()
