@@ -37,8 +37,15 @@ pub record IsSearch (s : Search) : Type 0 where
   pub held : IsHeld s.course.board s.held
   pub closed : IsClosedIn s.course.board s.held.set
 
--- the same poset, levels and board
+-- the same poset, levels, board and order of the proposers
 pub record IsSame (s t : Search) : Type 0 where
   pub poset : t.poset ≡ s.poset
   pub levels : t.levels ≡ s.levels
+  pub course : t.course ≡ s.course
+
+-- the same poset, levels and board, and this order of the proposers
+pub record IsInOrder (given : List ℕ) (s t : Search) : Type 0 where
+  pub poset : t.poset ≡ s.poset
+  pub levels : t.levels ≡ s.levels
   pub board : t.course.board ≡ s.course.board
+  pub order : t.course.order ≡ given

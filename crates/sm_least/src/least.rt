@@ -13,7 +13,7 @@ ghost use Rattle.sm_least.specs.Gates.{AreUnbounded};
 ghost use Rattle.sm_theory.specs.Regrets.{AreRanks, IsBestBelow};
 ghost use Rattle.sm_least.specs.Regrets.{IsRanked, AreAtStays, rank_now, greatest_of};
 ghost use Rattle.sm_board.specs.BoardOf.{IsLeastWithin, IsBestAllowed};
-ghost use Rattle.sm_least.specs.Searches.{IsSearch, IsSame, search_of};
+ghost use Rattle.sm_least.specs.Searches.{IsSearch, IsSame, IsInOrder, search_of};
 ghost use Rattle.sm_least.specs.StayRanks.{AreStayRanks};
 
 use crate::gates::Gates;
@@ -138,7 +138,6 @@ impl Least {
         requires forbidden { AreInRange (length self.old.poset.lists.proposers)
             conditions.now.forbidden.items }
         ensures same { IsSame self.old self.new }
-        ensures course { self.new.course ≡ self.old.course }
         ensures found { result ≡ true → IsLeastWithin self.new.poset.lists self.new.levels low.now
             high.now
             conditions.now.forced.items conditions.now.forbidden.items
@@ -163,7 +162,6 @@ impl Least {
         requires forbidden { AreInRange (length self.old.poset.lists.proposers)
             conditions.now.forbidden.items }
         ensures same { IsSame self.old self.new }
-        ensures course { self.new.course ≡ self.old.course }
         ensures found { result ≡ true → IsBestAllowed self.new.poset.lists self.new.levels
             conditions.now.forced.items conditions.now.forbidden.items
             (matching_of self.new.poset.lists self.new.poset.first.places self.new.poset.rotations
@@ -215,7 +213,6 @@ impl Least {
         requires forbidden { AreInRange (length self.old.poset.lists.proposers)
             conditions.now.forbidden.items }
         ensures same { IsSame self.old self.new }
-        ensures course { self.new.course ≡ self.old.course }
         ensures found { result ≡ true → IsBestBelow self.new.poset.lists self.new.levels
             (rows_of ranks.now.places.now) bound
             conditions.now.forced.items conditions.now.forbidden.items
@@ -260,8 +257,7 @@ impl Least {
             conditions.now.forced.items }
         requires forbidden { AreInRange (length self.old.poset.lists.proposers)
             conditions.now.forbidden.items }
-        ensures same { IsSame self.old self.new }
-        ensures order { self.new.course.order ≡ order.now }
+        ensures same { IsInOrder order.now self.old self.new }
         ensures gates { AreUnbounded self.new.course.board conditions.now.forced.items
             conditions.now.forbidden.items self.new.gates }
         ensures found { result ≡ true → IsBestAllowed self.new.poset.lists self.new.levels
