@@ -1,5 +1,5 @@
 -- What a search finds is what it is asked for.
-use Rattle.std.proofs.Common.{◌≡◌, ℕ, ◌<◌, arith, sym, ap, ◌∙◌, subst, refl, List, Bool, true, false, length, slice_index}
+use Rattle.std.proofs.Common.{◌≡◌, ℕ, ◌<◌, arith, sym, ap, ◌∙◌, subst, List, Bool, length, slice_index}
 use Rattle.std.proofs.lemmas.List.{ext_get_or}
 use Rattle.sm_market.specs.Matching.{Places}
 use Rattle.sm_market.specs.Stable.{IsStable}
@@ -10,10 +10,7 @@ use Rattle.sm_poset.specs.Posets.{RotationPoset}
 use Rattle.sm_board.specs.Board.{Board, IsBoard, stay, level, Gates, Fits, IsLeast, IsClosedIn}
 use Rattle.sm_board.specs.Walks.{vector, ExcludeNothing}
 use Rattle.sm_board.specs.BoardOf.{AreGates, IsLeastWithin, IsBestAllowed, IsBoardFor}
-use Rattle.sm_board.specs.Growing.{IsLogOf}
-use Rattle.sm_board.specs.Courses.{Held, IsHeld}
 use Rattle.sm_least.specs.Gates.{AreUnbounded, AreWide}
-use Rattle.sm_board.proofs.HeldLemmas.{one_log}
 use Rattle.sm_board.proofs.BoardLemmas.{stays_in}
 use Rattle.sm_board.proofs.BoardBridge.{board, many, is_board}
 use Rattle.sm_board.proofs.BoardSets.{level_is, least_is_best, board_shows_sets}
@@ -38,20 +35,6 @@ none_found {poset} {levels} {b} {c} {low} {high} {forced} {forbidden} g w in_ran
 pub closed_for : {poset : RotationPoset} {levels : List (List ℕ)} {b : Board} (C : List Bool) → IsBoardFor poset levels b → IsClosedIn b C → IsClosed poset.lists poset.rotations C
 closed_for {poset} {levels} {b} C w closed =
     (board_shows_sets poset.lists levels poset.first.places poset.rotations w.needs w.moves C w.ground).0.0 (subst (λ d. IsClosedIn d C) w.is closed)
-
--- what has the same log as a closed set is closed
-pub closed_still : {b : Board} (h k : Held) → IsHeld b h → IsHeld b k → k.log ≡ h.log → IsClosedIn b h.set → IsClosedIn b k.set
-closed_still {b} h k w v e closed =
-    let logged : IsLogOf b h.log k.set = subst (λ l. IsLogOf b l k.set) e v.logged in
-    record {
-      one_each = v.logged.one_each;
-      closed = λ i j m need. one_log w.logged logged i (closed.closed i j (one_log logged w.logged j m) need);
-    }
-
--- what holds for either answer
-pub either_way : {P : Type 0} (r : Bool) → (r ≡ true → P) → (r ≡ false → P) → P
-either_way true f g = f refl
-either_way false f g = g refl
 
 -- bounds between which all stays lie exclude nothing
 pub nothing_excluded : {poset : RotationPoset} {levels : List (List ℕ)} {b : Board} (low high : List ℕ) → IsBoardFor poset levels b → AreWide b low high → ExcludeNothing poset.lists levels low high
