@@ -50,39 +50,17 @@ pub struct SearchParts {
 /// section 3.4, in a form of this project's own).
 #[derive(Debug, Drop)]
 pub struct Least {
-    market: Rc<Market>,
-    chain: Rc<Chain>,
-    levels: Vec<Vec<u32>>,
-    course: Course,
-    gates: Gates,
-    held: Held,
+    parts: SearchParts,
 }
 
 impl Model for Least {
-    ghost use Rattle.sm_market.specs.Vectors.{rows_of};
-    ghost use Rattle.sm_theory.specs.Values.{rotations_of};
-    ghost use Rattle.sm_poset.specs.Posets.{poset_of};
-    ghost use Rattle.sm_least.specs.Searches.{Search, IsSearch};
+    ghost use Rattle.sm_least.specs.Searches.{Search, IsSearch, search_of};
 
     ghost Value = { Search };
 
-    ghost view = { λ s. record {
-      poset = poset_of s.market.value s.chain.value.first
-          (rotations_of s.chain.value.rotations.items);
-      levels = rows_of s.levels.items;
-      course = s.course;
-      gates = s.gates;
-      held = s.held;
-    } };
+    ghost view = { λ s. search_of s.parts };
 
-    ghost invariant = { λ s. IsSearch (record {
-      poset = poset_of s.market.value s.chain.value.first
-          (rotations_of s.chain.value.rotations.items);
-      levels = rows_of s.levels.items;
-      course = s.course;
-      gates = s.gates;
-      held = s.held;
-    }) };
+    ghost invariant = { λ s. IsSearch (search_of s.parts) };
 }
 
 impl Least {
@@ -106,14 +84,15 @@ impl Least {
         let held = Held::nothing(alloc, &board)?;
         let course = Course::new(alloc, board)?;
         let (market, chain) = poset.shared()?;
-        Ok(Least {
+        let parts = SearchParts {
             market,
             chain,
             levels,
             course,
             gates,
             held,
-        })
+        };
+        Ok(Least { parts })
     }
 
     /// The levels with which it was started: for each proposer one for each place of its list, and one for being unmatched.
@@ -121,7 +100,7 @@ impl Least {
     pub fn levels(&self) -> &[Vec<u32>]
         ensures { rows_of result.now ≡ self.now.levels }
     {
-        &self.levels
+        &self.parts.levels
     }
 
     /// Looks for the stable matching that is best for every proposer among those whose levels lie between `low` and `high`,
@@ -148,8 +127,10 @@ impl Least {
             → ¬ IsAllowed self.new.levels conditions.now.forced.items conditions.now.forbidden.items
             m }
     {
-        self.gates.set(self.course.board(), low, high, conditions);
-        find(&self.course, &self.gates, &mut self.held)
+        self.parts
+            .gates
+            .set(self.parts.course.board(), low, high, conditions);
+        find(&self.parts.course, &self.parts.gates, &mut self.parts.held)
     }
 
     /// Looks for the stable matching that is best for every proposer among those that meet the conditions. True where there is
@@ -170,8 +151,10 @@ impl Least {
             → ¬ IsAllowed self.new.levels conditions.now.forced.items conditions.now.forbidden.items
             m }
     {
-        self.gates.set_unbounded(self.course.board(), conditions);
-        find(&self.course, &self.gates, &mut self.held)
+        self.parts
+            .gates
+            .set_unbounded(self.parts.course.board(), conditions);
+        find(&self.parts.course, &self.parts.gates, &mut self.parts.held)
     }
 
     /// Ranks with those of the stays. `ranks` has one item for each place of a proposer's list, and places of one level have equal
@@ -193,7 +176,7 @@ impl Least {
         ensures ranks { IfOk result (λ made. AreStayRanks self.now.poset.lists self.now.levels
             self.now.course.board made) }
     {
-        let stays = along_stays(alloc, self.course.board(), &self.levels, ranks)?;
+        let stays = along_stays(alloc, self.parts.course.board(), &self.parts.levels, ranks)?;
         Ok(StayRanks {
             places: ranks,
             stays,
@@ -222,10 +205,10 @@ impl Least {
             → IsAllowed self.new.levels conditions.now.forced.items conditions.now.forbidden.items m
             → bound < regret_of self.new.poset.lists (rows_of ranks.now.places.now) m }
     {
-        let board = self.course.board();
-        self.gates.set_unbounded(board, conditions);
-        self.gates.shut_above(board, &ranks.stays, bound);
-        find(&self.course, &self.gates, &mut self.held)
+        let board = self.parts.course.board();
+        self.parts.gates.set_unbounded(board, conditions);
+        self.parts.gates.shut_above(board, &ranks.stays, bound);
+        find(&self.parts.course, &self.parts.gates, &mut self.parts.held)
     }
 
     /// The regret of the matching of what is held: the greatest rank at which a matched proposer stands, and 0 where nobody is
@@ -239,10 +222,10 @@ impl Least {
             self.now.held.set) }
     {
         greatest_rank(
-            self.course.board(),
-            &self.levels,
+            self.parts.course.board(),
+            &self.parts.levels,
             ranks.places,
-            self.held.levels(),
+            self.parts.held.levels(),
         )
     }
 
@@ -273,9 +256,11 @@ impl Least {
             → ¬ Fits self.new.course.board self.new.gates D }
         ensures nothing { result ≡ false → self.new.held.log ≡ [] }
     {
-        self.course.set_order(order);
-        self.gates.set_unbounded(self.course.board(), conditions);
-        find(&self.course, &self.gates, &mut self.held)
+        self.parts.course.set_order(order);
+        self.parts
+            .gates
+            .set_unbounded(self.parts.course.board(), conditions);
+        find(&self.parts.course, &self.parts.gates, &mut self.parts.held)
     }
 
     /// Writes the levels of all proposers in the matching of a closed set. The slice has an item for each proposer. Takes no
@@ -288,8 +273,8 @@ impl Least {
             (matching_of self.now.poset.lists self.now.poset.first.places self.now.poset.rotations
             set.now.members.items) }
     {
-        let _ = &self.market;
-        write_levels(self.course.board(), &set.members, into);
+        let _ = &self.parts.market;
+        write_levels(self.parts.course.board(), &set.members, into);
     }
 
     /// The closed set that is held: after a call of [`Least::least`] that answered true the one that it found. Takes
@@ -299,7 +284,7 @@ impl Least {
         ensures closed { IsClosed self.now.poset.lists self.now.poset.rotations
             result.now.members.items }
     {
-        self.held.set()
+        self.parts.held.set()
     }
 
     /// What it is made of, for a walk that steps on from what is held. Takes constant time.
@@ -307,14 +292,7 @@ impl Least {
         ensures parts { search_of result ≡ self }
         ensures search { IsSearch self }
     {
-        SearchParts {
-            market: self.market,
-            chain: self.chain,
-            levels: self.levels,
-            course: self.course,
-            gates: self.gates,
-            held: self.held,
-        }
+        self.parts
     }
 }
 

@@ -22,4 +22,4 @@ returns c =
     let ranks = (subst (λ (s : Search). AreStayRanks s.poset.lists s.levels s.course.board c.args.ranks.now) (sym c.self.view_is) c.requires).places in
     let is = rw (c.board.ensures.board, c.deref.ensures.value, c.levels.ensures) at c.greatest_rank.ensures in
     subst (λ (s : Search). c.greatest_rank.result ≡ regret_of s.poset.lists (rows_of c.args.ranks.now.places.now) (matching_of s.poset.lists s.poset.first.places s.poset.rotations s.held.set)) c.self.view_is
-    (is ∙ greatest_of-regret_of c.self.inside.held.set c.self.inside.held.levels c.self.invariant.board ranks (closed_for c.self.inside.held.set c.self.invariant.board c.self.invariant.closed) c.self.invariant.held.now_is)
+    (is ∙ greatest_of-regret_of c.self.inside.parts.held.set c.self.inside.parts.held.levels c.self.invariant.board ranks (closed_for c.self.inside.parts.held.set c.self.invariant.board c.self.invariant.closed) c.self.invariant.held.now_is)

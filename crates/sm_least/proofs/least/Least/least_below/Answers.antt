@@ -15,7 +15,7 @@ shut_above-requires-clause-few c = omega (arith, c.self.invariant.course.few, ap
 pub shut_above-requires-clause-ranks : goal.shut_above-requires-clause-ranks
 shut_above-requires-clause-ranks c =
     let given = subst (λ (s : Search). AreStayRanks s.poset.lists s.levels s.course.board c.args.ranks.now) (sym c.self.view_is) c.requires.ranks in
-    let levels = rows_of c.self.inside.levels.items in
+    let levels = rows_of c.self.inside.parts.levels.items in
     let ranks = rows_of c.args.ranks.now.places.now in
     let along : c.args.ranks.now.stays ≡ ranks_along c.board-board.result.now levels ranks = given.stays ∙ ap (λ (b : Board). ranks_along b levels ranks) (sym c.board-board.ensures.board) in
     subst (AreForStays c.board-board.result.now) (sym along) (for_stays c.board-board.result.now levels ranks)
@@ -24,7 +24,7 @@ pub returns-clause-found : goal.returns-clause-found
 returns-clause-found c = λ yes.
     let in_range = subst (λ (n : ℕ). AreInRange n c.args.conditions.now.forced.items) (ap (λ (s : Search). length s.poset.lists.proposers) (sym c.self.view_is)) c.requires.forced in
     let given = subst (λ (s : Search). AreStayRanks s.poset.lists s.levels s.course.board c.args.ranks.now) (sym c.self.view_is) c.requires.ranks in
-    let levels = rows_of c.self.inside.levels.items in
+    let levels = rows_of c.self.inside.parts.levels.items in
     let ranks = rows_of c.args.ranks.now.places.now in
     let along : c.args.ranks.now.stays ≡ ranks_along c.board-board.result.now levels ranks = given.stays ∙ ap (λ (b : Board). ranks_along b levels ranks) (sym c.board-board.ensures.board) in
     let opened = subst (λ (xs : List (List ℕ)). AreOpenUpTo c.board-board.result.now xs c.args.bound c.set_unbounded.new.self c.shut_above.new.self) along c.shut_above.ensures.open in
@@ -34,7 +34,7 @@ pub returns-clause-none : goal.returns-clause-none
 returns-clause-none c = λ no.
     let in_range = subst (λ (n : ℕ). AreInRange n c.args.conditions.now.forced.items) (ap (λ (s : Search). length s.poset.lists.proposers) (sym c.self.view_is)) c.requires.forced in
     let given = subst (λ (s : Search). AreStayRanks s.poset.lists s.levels s.course.board c.args.ranks.now) (sym c.self.view_is) c.requires.ranks in
-    let levels = rows_of c.self.inside.levels.items in
+    let levels = rows_of c.self.inside.parts.levels.items in
     let ranks = rows_of c.args.ranks.now.places.now in
     let along : c.args.ranks.now.stays ≡ ranks_along c.board-board.result.now levels ranks = given.stays ∙ ap (λ (b : Board). ranks_along b levels ranks) (sym c.board-board.ensures.board) in
     let opened = subst (λ (xs : List (List ℕ)). AreOpenUpTo c.board-board.result.now xs c.args.bound c.set_unbounded.new.self c.shut_above.new.self) along c.shut_above.ensures.open in
