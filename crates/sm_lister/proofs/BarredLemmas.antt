@@ -11,7 +11,7 @@ use Rattle.sm_board.specs.Walks.{IsUp, NoneFrom}
 use Rattle.sm_board.proofs.BoardLemmas.{members_are_first, stays_in, never_falls}
 use Rattle.sm_board.proofs.MemberLemmas.{members_few}
 use Rattle.sm_lister.specs.Walking.{IsUnderWay}
-use Rattle.sm_lister.specs.Barred.{HasRoom, IsBarred, IsBarredAt, AreBars, IsNoted, LeadTo, IsFollowed}
+use Rattle.sm_lister.specs.Barred.{IsBarred, IsBarredAt, AreBars, IsNoted, LeadTo}
 use Rattle.sm_lister.specs.declared.bars.Bars.{Bars}
 use Rattle.sm_lister.proofs.SkipLemmas.{marks_fewer}
 
@@ -105,29 +105,6 @@ noted_is {t} {C} {before} after x position w front same n less =
 pub all_barred : {t : Course} {C : List Bool} {from n x position : ℕ} (looked : List ℕ) → LeadTo t.board looked from n x → (position < length t.order → IsBarred t C x (position + 1)) → (k : ℕ) → from ≤ k → k < n → position < length t.order → IsBarred t C (slice_index looked k) (position + 1)
 all_barred looked leads bar k le few less D d m = bar less D d (leads k D le few d m)
 
--- with the position that was found written for all of the new ones
-pub bars_more : {t : Course} {C : List Bool} {before after written : Bars} {x position : ℕ} → AreBars t C before → IsFollowed t C x position before after → written.places ≡ after.places → written.looked ≡ after.looked → written.count ≡ after.count → length written.positions.items ≡ length after.positions.items
-    → ((k : ℕ) → k < before.count → slice_index written.positions.items k ≡ slice_index after.positions.items k) → ((k : ℕ) → before.count ≤ k → k < after.count → slice_index written.positions.items k ≡ position) → AreBars t C written
-bars_more {t} {C} {before} {after} {written} {x} {position} w f places looked count each old new = record {
-  room = record {
-    place_each = ap (λ v. length v.items) places ∙ f.room.place_each;
-    looked_each = ap (λ v. length v.items) looked ∙ f.room.looked_each;
-    position_each = each ∙ f.room.position_each;
-  };
-  few = let a = f.few in omega (arith, count);
-  barred = λ k less on D d m.
-      let m : IsMember D (slice_index after.looked.items k) = subst (IsMember D) (ap (λ v. slice_index v.items k) looked) m in
-      elim (lt_or_le k before.count) [
-        | inl first ↦
-            let at : slice_index written.positions.items k ≡ slice_index before.positions.items k = old k first ∙ ap (λ v. slice_index v.items k) f.same in
-            subst (λ q. IsBroken t (q + 1) C D) (sym at) (w.barred k first (omega (arith, at)) D d (subst (IsMember D) (f.front k first) m))
-        | inr later ↦
-            let few : k < after.count = omega (arith, count) in
-            let at = new k later few in
-            subst (λ q. IsBroken t (q + 1) C D) (sym at) (f.barred k later few (omega (arith, at)) D d m)
-      ];
-}
-
 -- where fewer are held no more may enter
 pub bars_fewer : {t : Course} {C D : List Bool} {bars : Bars} → IsInside C D → AreBars t D bars → AreBars t C bars
 bars_fewer inside w = record {
@@ -137,10 +114,6 @@ bars_fewer inside w = record {
       let b = w.barred k less on E e m in
       record { rotation = b.rotation; member = b.member; new = λ in_it. b.new (inside b.rotation in_it); position = b.position; early = b.early; changes = b.changes };
 }
-
--- where none were looked at all is right
-pub no_bars : {t : Course} {C : List Bool} {bars : Bars} → HasRoom t bars → bars.count ≡ 0 → AreBars t C bars
-no_bars room none = record { room = room; few = omega (arith, none); barred = λ k less. absurd (omega (arith, none)) }
 
 -- the proposer at a position of an order
 pub placed : {n : ℕ} {order : List ℕ} (i p : ℕ) → IsOrder n order → i < n → p ≡ slice_index order i → p < n

@@ -14,7 +14,7 @@ use Rattle.sm_lister.specs.declared.vector_walk.VectorWalk.{VectorWalk}
 use Rattle.std.proofs.lemmas.Bool.{false≢true}
 use Rattle.std.proofs.lemmas.List.{get_or_default}
 use Rattle.sm_lister.proofs.SkipLemmas.{under_way_skip}
-use Rattle.sm_lister.specs.Walking.{cursor_of, IsFirstSetBehind, NoneLeft, AreSkips, IsUnderWay, IsVectorReached, IsKeptWalk}
+use Rattle.sm_lister.specs.Walking.{cursor_of, IsFirstSetBehind, NoneLeft, AreSkips, IsUnderWay, IsKeptWalk}
 use Rattle.sm_lister.specs.Barred.{HasRoom}
 use Rattle.sm_lister.specs.Kept.{IsGoing}
 
@@ -48,14 +48,6 @@ module _ {poset : RotationPoset} {levels : List (List ℕ)} {forced forbidden : 
 -- where a vector was reached it is the cursor
 pub cursor_is : (w : VectorWalk) {v : List ℕ} → w.given ≡ true → w.vector.items ≡ v → cursor_of w ≡ Some v
 cursor_is w {v} given is = ap (λ given. if given then Some w.vector.items else None) given ∙ ap Some is
-
--- where what is reached is behind a walk's vector, the walk has one
-pub reached_cursor : {t : Course} {g : Gates} {h k : Held} {v marks : List ℕ} (w : VectorWalk) → IsKeptWalk t g h w → w.fresh ≡ false → IsVectorReached t g (Some w.vector.items) k v marks → (w.given ≡ true) × IsVectorReached t g (cursor_of w) k v marks
-reached_cursor {t} {g} {h} {k} {v} {marks} w kept over r = go w.given refl
-  where
-    go : (x : Bool) → w.given ≡ x → (w.given ≡ true) × IsVectorReached t g (cursor_of w) k v marks
-    go true e = (e, subst (λ x. IsVectorReached t g (if x then Some w.vector.items else None) k v marks) (sym e) r)
-    go false e = absurd (kept.nothing over e k.set r.fits)
 
 -- where the depth is 0 none is left
 pub none_left : {t : Course} {g : Gates} {h : Held} (w : VectorWalk) → IsKeptWalk t g h w → w.fresh ≡ false → w.depth ≡ 0 → NoneLeft t g (cursor_of w)
