@@ -36,11 +36,12 @@ use Rattle.sm_words.specs.Takes.{reads_input}
 use Rattle.sm_top.specs.Accepting.{accepted, behind_text}
 use Rattle.sm_top.specs.Forms.{given_text, form_asked}
 use Rattle.sm_top.specs.Outcome.{OfTwo, OfRoom, IsSolved, IsRegretted, IsSummary, IsMade, IsWeighed, IsMiddle, IsAnswerOver, IsAnswer, IsRefused, IsRefusedIn, Outcome, not_accepted, faulty_words, refused, answered}
-use Rattle.sm_top.specs.Input.{IsReadWhole, ReadWhole, IsTooLong}
-use Rattle.sm_top.specs.Running.{IsBeingRead, Ends, Answers, AnswersAccepted, reads, form_of, asks_to_read, writes_all_lines, is_answer, is_too_long}
+use Rattle.sm_top.specs.Input.{Loses, IsReadWhole, ReadWhole, IsTooLong}
+use Rattle.sm_top.specs.Running.{IsBeingRead, Ends, Answers, AnswersAccepted, reads, form_of, asks_to_read, writes_all_lines, may_end_early, is_answer, is_too_long}
 use Rattle.sm_top.specs.Steps.{IsRefusal, IsUngiven, IsReadFault, Serves, SaysStop}
 use Rattle.sm_text.specs.Limits.{most_bytes}
 use Rattle.sm_top.specs.Wrote.{Ended, Wrote, With, whole, sink_failed, no_memory}
+use Rattle.sm_top.proofs.InputLemmas.{loses_nothing}
 use Rattle.sm_top.proofs.WritingLemmas.{wrote_for}
 
 -- the lines of a right answer for an instance with two sides were written, where what is right may depend on what was read
@@ -300,11 +301,11 @@ outcome_whole {tallies} words bytes status lines (refused job form refusal meani
 outcome_whole {tallies} words bytes status lines (answered job form text meaning given right) = answer_whole status (answer_status tallies job text status lines right)
 
 -- a text was written, and what the source has left
-answers_wrote : {tallies : List Shown} (words : List (List ℕ)) (bytes : List ℕ) (before after a b : Option (List ℕ)) (f g : ℕ) (status : Status) → Agrees before bytes → Wrote (form_of words) (Outcome tallies words bytes) a b f g status
+answers_wrote : {tallies : List Shown} (words : List (List ℕ)) (bytes : List ℕ) (before after a b : Option (List ℕ)) (f g : ℕ) (status : Status) → Agrees before bytes → Loses before after → Wrote (form_of words) (Outcome tallies words bytes) a b f g status
     → (reads words ≡ true → writes_all_lines status ≡ true → is_too_long status ≡ false → IsReadWhole before after) → (reads words ≡ true → IsBeingRead before after → ⊥)
     → Answers tallies words before after a b status
-answers_wrote {tallies} words bytes before after a b f g status agrees w read_whole over =
-    record { bytes = bytes; text = w.text; read = agrees; written = w.grows; ends = by_end w.ended } where
+answers_wrote {tallies} words bytes before after a b f g status agrees lost w read_whole over =
+    record { bytes = bytes; text = w.text; read = agrees; lost = lost; written = w.grows; ends = by_end w.ended } where
       by_end : Ended (form_of words) (Outcome tallies words bytes) w.text f g status → Ends tallies words bytes w.text before after status
       by_end (whole text) =
           let w : writes_all_lines status ≡ true = outcome_whole words bytes status text.lines text.is_right in
@@ -314,6 +315,7 @@ answers_wrote {tallies} words bytes before after a b f g status agrees w read_wh
             write_fault = λ is. absurd (let h = ap writes_all_lines is in cc);
             read_fault = λ is. absurd (let h = ap writes_all_lines is in cc);
             early = λ is r reading. absurd (over r reading);
+            over = λ r _. over r;
             read_whole = read_whole;
           }
       by_end (sink_failed is front rose) = record {
@@ -322,6 +324,7 @@ answers_wrote {tallies} words bytes before after a b f g status agrees w read_wh
         write_fault = λ _. front;
         read_fault = λ other. absurd cc;
         early = λ other r reading. absurd (over r reading);
+        over = λ r _. over r;
         read_whole = read_whole;
       }
       by_end (no_memory is front) = record {
@@ -330,14 +333,15 @@ answers_wrote {tallies} words bytes before after a b f g status agrees w read_wh
         write_fault = λ other. absurd cc;
         read_fault = λ other. absurd cc;
         early = λ other r reading. absurd (over r reading);
+        over = λ r _. over r;
         read_whole = read_whole;
       }
 
 -- a run that serves the job of its words answers them as it promises
 pub answers_served : {tallies : List Shown} (words : List (List ℕ)) (job : JobData) (form : Form) → words_meaning words ≡ Ok (job, form) → (before after a b : Option (List ℕ)) (f g : ℕ) (status : Status)
-    → Serves tallies job form before after a b f g status → Answers tallies words before after a b status
-answers_served {tallies} words job form meaning before after a b f g status s =
-    answers_wrote words s.bytes before after a b f g status s.read
+    → Serves tallies job form before after a b f g status → Loses before after → Answers tallies words before after a b status
+answers_served {tallies} words job form meaning before after a b f g status s lost =
+    answers_wrote words s.bytes before after a b f g status s.read lost
     (asked_in (λ form. Wrote form (Outcome tallies words s.bytes) a b f g status) words job form meaning
     (wrote_for (IsAnswer tallies job s.text) (Outcome tallies words s.bytes) a b f g status (λ s' lines right. answered job form s.text meaning s.given right) s.wrote))
     (λ r _ _. s.over (sym (reads_of words job form meaning) ∙ r)) (λ r. not_being_read before after (s.over (sym (reads_of words job form meaning) ∙ r)))
@@ -378,12 +382,13 @@ with_whole {form} given gives a b f g status h w = by_end w.ended where
   by_end (no_memory is front) = absurd (let k = ap writes_all_lines is in cc)
 
 -- nothing was written, for want of memory, or since the source failed
-answers_nothing : {tallies : List Shown} (words : List (List ℕ)) (before after a b : Option (List ℕ)) (status : Status) → (status ≡ OutOfMemory) ⊎ ((status ≡ ReadFault) × (reads words ≡ true)) → b ≡ a
+answers_nothing : {tallies : List Shown} (words : List (List ℕ)) (before after a b : Option (List ℕ)) (status : Status) → (status ≡ OutOfMemory) ⊎ ((status ≡ ReadFault) × (reads words ≡ true)) → b ≡ a → Loses before after
     → Answers tallies words before after a b status
-answers_nothing {tallies} words before after a b status why same = record {
+answers_nothing {tallies} words before after a b status why same lost = record {
   bytes = bytes_of before;
   text = [];
   read = agrees_of before;
+  lost = lost;
   written = subst (λ (x : Option (List ℕ)). Grows a x []) (sym same) (Grows-nil a);
   ends = record {
     whole = λ w. absurd (not_whole why w);
@@ -391,12 +396,17 @@ answers_nothing {tallies} words before after a b status why same = record {
     write_fault = λ is. absurd (not_write_fault why is);
     read_fault = λ is. (read_fault why is, refl);
     early = λ _ _ _. refl;
+    over = λ _ whole. absurd (ends_early why whole);
     read_whole = λ _ w. absurd (not_whole why w);
   };
 } where
   not_whole : (status ≡ OutOfMemory) ⊎ ((status ≡ ReadFault) × (reads words ≡ true)) → writes_all_lines status ≡ true → ⊥
   not_whole (inl is) w = let h = ap writes_all_lines is in cc
   not_whole (inr is) w = let h = ap writes_all_lines is.0 in cc
+
+  ends_early : (status ≡ OutOfMemory) ⊎ ((status ≡ ReadFault) × (reads words ≡ true)) → may_end_early status ≡ false → ⊥
+  ends_early (inl is) w = let h = ap may_end_early is in cc
+  ends_early (inr is) w = let h = ap may_end_early is.0 in cc
 
   not_write_fault : (status ≡ OutOfMemory) ⊎ ((status ≡ ReadFault) × (reads words ≡ true)) → status ≡ WriteFault → ⊥
   not_write_fault (inl is) w = cc
@@ -418,38 +428,38 @@ plain_stop U R F stop.OutOfMemory none = tt
 pub answers_faulty : {tallies : List Shown} (words : List (List ℕ)) (word : ℕ) → words_meaning words ≡ Err word → (left a b : Option (List ℕ)) (f g : ℕ) (status : Status)
     → SaysStop Text (stop.Usage word) a b f g status → Answers tallies words left left a b status
 answers_faulty {tallies} words word faulty left a b f g status says =
-    answers_wrote words (bytes_of left) left left a b f g status (agrees_of left)
+    answers_wrote words (bytes_of left) left left a b f g status (agrees_of left) (loses_nothing left)
     (subst (λ (form : Form). Wrote form (Outcome tallies words (bytes_of left)) a b f g status) (sym (ap form_asked faulty))
     (wrote_for (With (Usage word) (λ lines. lines ≡ usage_line word ∷ [])) (Outcome tallies words (bytes_of left)) a b f g status (λ s lines w. faulty_words word faulty w.same w.given_lines) says))
     (λ some. absurd (let none = ap asks_to_read faulty in cc)) (λ some. absurd (let none = ap asks_to_read faulty in cc))
 
 -- a run without memory for its words
 pub answers_unread : {tallies : List Shown} (words : List (List ℕ)) (left a : Option (List ℕ)) → Answers tallies words left left a a OutOfMemory
-answers_unread {tallies} words left a = answers_nothing words left left a a OutOfMemory (inl refl) refl
+answers_unread {tallies} words left a = answers_nothing words left left a a OutOfMemory (inl refl) refl (loses_nothing left)
 
 -- so a run that stopped is right
 pub answers_stopped : {tallies : List Shown} (words : List (List ℕ)) (job : JobData) (form : Form) → words_meaning words ≡ Ok (job, form) → (before after a b : Option (List ℕ)) (f g h i : ℕ) (s : Stop) (status : Status)
-    → StopsBy (λ _. ⊥) (IsRefusal job form before after) (IsReadFault job h i) s → SaysStop form s a b f g status → Answers tallies words before after a b status
-answers_stopped {tallies} words job form meaning before after a b f g h i (stop.Usage word) status faulty says = absurd faulty
-answers_stopped {tallies} words job form meaning before after a b f g h i (stop.Refused kind at) status r says =
-    answers_wrote words r.bytes before after a b f g status r.read
+    → StopsBy (λ _. ⊥) (IsRefusal job form before after) (IsReadFault job h i) s → SaysStop form s a b f g status → Loses before after → Answers tallies words before after a b status
+answers_stopped {tallies} words job form meaning before after a b f g h i (stop.Usage word) status faulty says lost = absurd faulty
+answers_stopped {tallies} words job form meaning before after a b f g h i (stop.Refused kind at) status r says lost =
+    answers_wrote words r.bytes before after a b f g status r.read lost
     (asked_in (λ form. Wrote form (Outcome tallies words r.bytes) a b f g status) words job form meaning
     (wrote_for (With (Refused kind at) (λ lines. lines ≡ refused_line (plain_refusal kind at) ∷ [])) (Outcome tallies words r.bytes) a b f g status
     (λ s lines w. refused job form (plain_refusal kind at) meaning r.refused w.same w.given_lines) says))
     (λ reading w short. r.read_whole (sym (reads_of words job form meaning) ∙ reading) (λ is. let same : status ≡ Refused kind at = with_whole (Refused kind at) _ a b f g status w says in let long : is_too_long status ≡ true = ap is_too_long same ∙ ap (λ k. is_too_long (Refused k at)) is in absurd cc))
     (λ reading. r.over (sym (reads_of words job form meaning) ∙ reading))
-answers_stopped {tallies} words job form meaning before after a b f g h i (stop.Unstable at fields) status told says =
+answers_stopped {tallies} words job form meaning before after a b f g h i (stop.Unstable at fields) status told says lost =
     let r = told.0 in
-    answers_wrote words r.bytes before after a b f g status r.read
+    answers_wrote words r.bytes before after a b f g status r.read lost
     (asked_in (λ form. Wrote form (Outcome tallies words r.bytes) a b f g status) words job form meaning
     (wrote_for (With (Refused NotStable at) (λ lines. lines ≡ refused_line (with_detail NotStable at (refusal_fields fields)) ∷ [])) (Outcome tallies words r.bytes) a b f g status
     (λ s lines w. refused job form (with_detail NotStable at (refusal_fields fields)) meaning r.refused w.same w.given_lines) says))
     (λ reading w short. r.read_whole (sym (reads_of words job form meaning) ∙ reading) (λ is. absurd cc))
     (λ reading. r.over (sym (reads_of words job form meaning) ∙ reading))
-answers_stopped {tallies} words job form meaning before after a b f g h i stop.ReadFault status fault says =
-    answers_nothing words before after a b status (inr (says.0, reads_of words job form meaning ∙ fault.reading)) says.1
-answers_stopped {tallies} words job form meaning before after a b f g h i stop.OutOfMemory status none says =
-    answers_nothing words before after a b status (inl says.0) says.1
+answers_stopped {tallies} words job form meaning before after a b f g h i stop.ReadFault status fault says lost =
+    answers_nothing words before after a b status (inr (says.0, reads_of words job form meaning ∙ fault.reading)) says.1 lost
+answers_stopped {tallies} words job form meaning before after a b f g h i stop.OutOfMemory status none says lost =
+    answers_nothing words before after a b status (inl says.0) says.1 lost
 
 -- a run on bytes that aren't refused
 outcome_accepted : {tallies : List Shown} (words : List (List ℕ)) (bytes : List ℕ) (status : Status) (lines : List (List ℕ)) (job : JobData) (form : Form) → words_meaning words ≡ Ok (job, form)

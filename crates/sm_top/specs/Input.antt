@@ -5,6 +5,11 @@ use Rattle.sm_text.specs.declared.refusal.RefusalKind.TheVariants.{TooLong}
 use Rattle.sm_top.specs.Texts.{RefusalData, plain_refusal}
 use Rattle.sm_text.specs.Limits.{most_bytes}
 
+-- a source that told its bytes before gave some from their front, and tells the others
+pub record Loses (left_before left_after : Option (List ℕ)) : Type 0 where
+  pub given : List ℕ
+  pub consumed : Consumes left_before left_after given
+
 -- a source that told its bytes before has none left
 abbrev pub IsReadWhole : Option (List ℕ) → Option (List ℕ) → Type 0
 IsReadWhole left_before left_after = IfSome left_before (λ _. IsAtEnd left_after)

@@ -11,7 +11,7 @@ use Rattle.sm_top.specs.declared.status.Status.TheVariants.{Refused, Usage, OutO
 use Rattle.sm_text.specs.Limits.{most_bytes}
 use Rattle.sm_tally.specs.Fold.{Shown}
 use Rattle.sm_words.specs.Takes.{reads_input}
-use Rattle.sm_top.specs.Input.{IsReadWhole}
+use Rattle.sm_top.specs.Input.{Loses, IsReadWhole}
 use Rattle.sm_top.specs.Texts.{RefusalData}
 use Rattle.sm_top.specs.Forms.{given_text, written_text, form_asked}
 use Rattle.sm_top.specs.Outcome.{Outcome, IsRefusedIn}
@@ -37,6 +37,12 @@ abbrev pub is_answer : Status → Bool
 is_answer (Refused kind at) = false
 is_answer (Usage word) = false
 is_answer status = writes_all_lines status
+
+-- the statuses with which a run may end while the input is read
+abbrev pub may_end_early : Status → Bool
+may_end_early OutOfMemory = true
+may_end_early ReadFault = true
+may_end_early status = false
 
 -- the status of an input that is too long
 abbrev pub is_too_long : Status → Bool
@@ -72,15 +78,17 @@ pub record Ends (tallies : List Shown) (words : List (List ℕ)) (bytes text : L
   pub write_fault : status ≡ WriteFault → IsFront (form_of words) (Outcome tallies words bytes) text
   pub read_fault : status ≡ ReadFault → (reads words ≡ true) × (text ≡ [])
   pub early : status ≡ OutOfMemory → reads words ≡ true → IsBeingRead left_before left_after → text ≡ []
-  -- an input is read whole, unless it is too long
+  -- with any other status no more of an input is to be read, and it is read whole unless it is too long
+  pub over : reads words ≡ true → may_end_early status ≡ false → ¬ IsBeingRead left_before left_after
   pub read_whole : reads words ≡ true → writes_all_lines status ≡ true → is_too_long status ≡ false → IsReadWhole left_before left_after
 
 -- A run with these words and with tallies that showed this: of all the bytes that the source had left, this text was written, which is added to what the sink
--- held. Where a source or a sink doesn't tell its bytes, there are some of which this is true.
+-- held. Whatever the status, the source lost a front of its bytes. Where a source or a sink doesn't tell its bytes, there are some of which this is true.
 pub record Answers (tallies : List Shown) (words : List (List ℕ)) (left_before left_after held_before held_after : Option (List ℕ)) (status : Status) : Type 0 where
   pub bytes : List ℕ
   pub text : List ℕ
   pub read : Agrees left_before bytes
+  pub lost : Loses left_before left_after
   pub written : Grows held_before held_after text
   pub ends : Ends tallies words bytes text left_before left_after status
 

@@ -2,7 +2,7 @@
 
 ghost use Rattle.std.specs.Prelude.{◌≡◌, ◌≤◌, IfOk, IfErr, vec_len};
 ghost use Rattle.sm_io.specs.Faults.{Rose};
-ghost use Rattle.sm_top.specs.Input.{ReadWhole, IsTooLong};
+ghost use Rattle.sm_top.specs.Input.{Loses, ReadWhole, IsTooLong};
 ghost use Rattle.sm_top.specs.Stops.{StopsBy};
 
 use crate::stop::Stop;
@@ -20,6 +20,7 @@ pub(crate) fn read_all<S: Source>(alloc: Global, source: &mut S) -> Result<Vec<u
     ensures stop { IfErr result (λ stop. StopsBy (λ _. ⊥) (IsTooLong (S.left source.old)
         (S.left source.new))
         (Rose (S.faults source.old) (S.faults source.new)) stop) }
+    ensures lost { Loses (S.left source.old) (S.left source.new) }
     ensures later { S.faults source.old ≤ S.faults source.new }
 {
     let mut chunk = zeros(alloc, CHUNK)?;

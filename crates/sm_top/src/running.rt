@@ -7,6 +7,7 @@ ghost use Rattle.sm_words.specs.Jobs.{job_of, IsFormFor, IsInBounds};
 ghost use Rattle.sm_words.specs.Words.{texts, words_meaning};
 ghost use Rattle.sm_tally.specs.Fold.{shown_as};
 ghost use Rattle.sm_words.specs.Takes.{reads_input};
+ghost use Rattle.sm_top.specs.Input.{Loses};
 ghost use Rattle.sm_top.specs.Outcome.{IsAnswer, IsRefused};
 ghost use Rattle.sm_top.specs.Running.{reads, Answers, AnswersAccepted};
 ghost use Rattle.sm_top.specs.Steps.{Serves, IsRefusal, IsReadFault, SaysStop};
@@ -164,6 +165,7 @@ fn serve<S: Source, K: Sink>(
         (IsReadFault (job_of job.now) (S.faults source.old) (S.faults source.new)) stop) }
     ensures untouched { reads_input (job_of job.now) ≡ false → source.new ≡ source.old }
     ensures unwritten { OnErr result (sink.new ≡ sink.old) }
+    ensures lost { Loses (S.left source.old) (S.left source.new) }
     ensures source_later { S.faults source.old ≤ S.faults source.new }
     ensures sink_later { K.faults sink.old ≤ K.faults sink.new }
 {
@@ -195,6 +197,7 @@ fn read_and_answer<S: Source, K: Sink>(
         (IsRefusal (job_of job.now) form (S.left source.old) (S.left source.new))
         (Rose (S.faults source.old) (S.faults source.new)) stop) }
     ensures unwritten { OnErr result (sink.new ≡ sink.old) }
+    ensures lost { Loses (S.left source.old) (S.left source.new) }
     ensures source_later { S.faults source.old ≤ S.faults source.new }
     ensures sink_later { K.faults sink.old ≤ K.faults sink.new }
 {

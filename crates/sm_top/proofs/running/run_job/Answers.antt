@@ -4,7 +4,7 @@ use Rattle.sm_top.proofs.RunLemmas.{answers_served, answers_stopped, plain_stop}
 use Rattle.sm_top.proofs.running.run_job.Goals as goal
 
 pub returns-in-Ok-clause-answer : goal.returns-in-Ok-clause-answer
-returns-in-Ok-clause-answer g c words meaning = answers_served words (job_of c.args.job.now) c.args.form meaning _ _ _ _ _ _ c.in-Ok.status c.in-Ok.ensures.served
+returns-in-Ok-clause-answer g c words meaning = answers_served words (job_of c.args.job.now) c.args.form meaning _ _ _ _ _ _ c.in-Ok.status c.in-Ok.ensures.served c.in-Ok.ensures.lost
 
 pub say_stop-requires : goal.say_stop-requires
 say_stop-requires g c =
@@ -14,4 +14,4 @@ say_stop-requires g c =
 pub returns-in-Err-clause-answer : goal.returns-in-Err-clause-answer
 returns-in-Err-clause-answer g c words meaning =
     let says = rw c.in-Err.ensures.unwritten at c.say_stop.ensures.says in
-    answers_stopped words (job_of c.args.job.now) c.args.form meaning _ _ _ _ _ _ _ _ c.in-Err.stop c.say_stop.result c.in-Err.ensures.stop says
+    answers_stopped words (job_of c.args.job.now) c.args.form meaning _ _ _ _ _ _ _ _ c.in-Err.stop c.say_stop.result c.in-Err.ensures.stop says c.in-Err.ensures.lost
