@@ -6,14 +6,11 @@ ghost use Rattle.sm_theory.specs.Vectors.{IsOrder, AreInRange};
 ghost use Rattle.sm_lister.specs.Listers.{IsStarted, IsNextOf, IsAtEnd, IsSameLister, vector_of};
 
 use crate::vector_walk::{VectorWalk, advance};
-use sm_board::{Course, Held};
-use sm_least::{Gates, Least, SearchParts};
-use sm_market::Market;
+use sm_least::{Least, SearchParts};
 use sm_poset::Conditions;
-use sm_theory::{Chain, ClosedSet};
+use sm_theory::ClosedSet;
 use std::alloc::{AllocError, Global};
 use std::marker::Model;
-use std::rc::Rc;
 
 /// Goes over the stable matchings that conditions allow, from one level vector to the next one in an order of the proposers.
 ///
@@ -22,13 +19,8 @@ use std::rc::Rc;
 #[derive(Debug, Drop)]
 pub struct Lister {
     alloc: Global,
-    market: Rc<Market>,
-    chain: Rc<Chain>,
-    levels: Vec<Vec<u32>>,
+    parts: SearchParts,
     conditions: Conditions,
-    course: Course,
-    gates: Gates,
-    held: Held,
     walk: VectorWalk,
     here: bool,
 }
@@ -44,25 +36,25 @@ impl Model for Lister {
     ghost Value = { Plain };
 
     ghost view = { λ s. record {
-      poset = poset_of s.market.value s.chain.value.first
-          (rotations_of s.chain.value.rotations.items);
-      levels = rows_of s.levels.items;
+      poset = poset_of s.parts.market.value s.parts.chain.value.first
+          (rotations_of s.parts.chain.value.rotations.items);
+      levels = rows_of s.parts.levels.items;
       forced = s.conditions.forced.items;
       forbidden = s.conditions.forbidden.items;
-      order = s.course.order;
+      order = s.parts.course.order;
       cursor = cursor_of s.walk;
       here = s.here;
-      set = s.held.set;
+      set = s.parts.held.set;
     } };
 
     ghost invariant = { λ s. IsLister
-        (poset_of s.market.value s.chain.value.first (rotations_of s.chain.value.rotations.items))
-        (rows_of s.levels.items)
+        (poset_of s.parts.market.value s.parts.chain.value.first (rotations_of s.parts.chain.value.rotations.items))
+        (rows_of s.parts.levels.items)
         s.conditions.forced.items
         s.conditions.forbidden.items
-        s.course
-        s.gates
-        s.held
+        s.parts.course
+        s.parts.gates
+        s.parts.held
         s.walk
         s.here };
 }
@@ -96,24 +88,12 @@ impl Lister {
     {
         let mut least = least;
         let any = least.begin(&order, &conditions);
-        let SearchParts {
-            market,
-            chain,
-            levels,
-            course,
-            gates,
-            held,
-        } = least.into_parts();
-        let walk = VectorWalk::start(alloc, &course, after, any)?;
+        let parts = least.into_parts();
+        let walk = VectorWalk::start(alloc, &parts.course, after, any)?;
         Ok(Lister {
             alloc,
-            market,
-            chain,
-            levels,
+            parts,
             conditions,
-            course,
-            gates,
-            held,
             walk,
             here: false,
         })
@@ -131,7 +111,12 @@ impl Lister {
         ensures none { result ≡ false → IsAtEnd self.old × (self.new.cursor ≡ self.old.cursor) }
         ensures here { self.new.here ≡ result }
     {
-        self.here = advance(&self.course, &self.gates, &mut self.held, &mut self.walk);
+        self.here = advance(
+            &self.parts.course,
+            &self.parts.gates,
+            &mut self.parts.held,
+            &mut self.walk,
+        );
         self.here
     }
 
@@ -166,7 +151,7 @@ impl Lister {
         ensures vector { self.now.cursor ≡ Some (vector_of self.now result.now.members.items) }
     {
         let _ = self.here;
-        self.held.set()
+        self.parts.held.set()
     }
 
     /// The last vector reached, or else the one after which it was started, if there was one. A lister started after it gives

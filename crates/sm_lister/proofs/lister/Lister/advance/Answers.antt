@@ -8,7 +8,7 @@ use Rattle.sm_lister.proofs.lister.Lister.advance.Goals as goal
 pub returns-clause-next : goal.returns-clause-next
 returns-clause-next c = λ yes.
     let r = c.advance-self-inside.ensures.reached yes in
-    let v = vector c.self.inside.course.board c.advance-self-inside.new.held.set in
+    let v = vector c.self.inside.parts.course.board c.advance-self-inside.new.held.set in
     (v, cursor_is c.advance-self-inside.new.walk (c.advance-self-inside.ensures.given yes) r.vector_is, subst (λ (s : Lister). IsNextOf s v) c.self.view_is (next_found c.self.invariant.going (cursor_of c.self.inside.walk) c.advance-self-inside.new.held.set r.fits r.first))
 
 pub returns-clause-none : goal.returns-clause-none

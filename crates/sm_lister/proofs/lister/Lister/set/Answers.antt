@@ -9,12 +9,12 @@ here c = ap (λ (s : Lister). s.here) c.self.view_is ∙ c.requires
 
 pub returns-clause-closed : goal.returns-clause-closed
 returns-clause-closed c =
-    let closed = fits_closed c.self.invariant.going c.self.inside.held.set (c.self.invariant.fits (here c)) in
+    let closed = fits_closed c.self.invariant.going c.self.inside.parts.held.set (c.self.invariant.fits (here c)) in
     subst (λ (s : Lister). IsClosed s.poset.lists s.poset.rotations c.set.result.now.members.items) c.self.view_is
     (subst (IsClosed _ _) (sym c.set.ensures) closed)
 
 pub returns-clause-vector : goal.returns-clause-vector
 returns-clause-vector c =
-    let shown = vector_shown c.self.invariant.going c.self.inside.held.set (c.self.invariant.fits (here c)) in
+    let shown = vector_shown c.self.invariant.going c.self.inside.parts.held.set (c.self.invariant.fits (here c)) in
     subst (λ C. c.args.self.now.cursor ≡ Some (vector_of c.args.self.now C)) (sym c.set.ensures)
-    (subst (λ (s : Lister). s.cursor ≡ Some (vector_of s c.self.inside.held.set)) c.self.view_is (c.self.invariant.reached (here c) ∙ ap Some shown))
+    (subst (λ (s : Lister). s.cursor ≡ Some (vector_of s c.self.inside.parts.held.set)) c.self.view_is (c.self.invariant.reached (here c) ∙ ap Some shown))
