@@ -82,8 +82,9 @@ pub record Ends (tallies : List Shown) (words : List (List ℕ)) (bytes text : L
   pub over : reads words ≡ true → may_end_early status ≡ false → ¬ IsBeingRead left_before left_after
   pub read_whole : reads words ≡ true → writes_all_lines status ≡ true → is_too_long status ≡ false → IsReadWhole left_before left_after
 
--- A run with these words and with tallies that showed this: of all the bytes that the source had left, this text was written, which is added to what the sink
--- held. Whatever the status, the source lost a front of its bytes. Where a source or a sink doesn't tell its bytes, there are some of which this is true.
+-- A run with these words and with tallies that showed this: of all the bytes that the source had left, this text was written, which
+-- is added to what the sink held. Whatever the status, the source lost a front of its bytes. Where a source or a sink doesn't tell
+-- its bytes, there are some of which this is true.
 pub record Answers (tallies : List Shown) (words : List (List ℕ)) (left_before left_after held_before held_after : Option (List ℕ)) (status : Status) : Type 0 where
   pub bytes : List ℕ
   pub text : List ℕ
