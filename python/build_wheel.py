@@ -44,6 +44,11 @@ def has_release():
     return said.startswith('current')
 
 
+def sum_of(data):
+    """A checksum as RECORD has it."""
+    return base64.urlsafe_b64encode(hashlib.sha256(data).digest()).rstrip(b'=').decode()
+
+
 def wheel_of(folder, parts, pure):
     """Writes a wheel of parts, each a name, its bytes and whether it can be executed."""
     number, seconds = version()
@@ -55,9 +60,9 @@ def wheel_of(folder, parts, pure):
                 'Summary: All stable matchings of an instance, with proved answers\nLicense: MIT\nRequires-Python: >=3.8\n'
                 f'Description-Content-Type: text/markdown\n\n{guide}')
     parts = sorted([*parts, (f'{info}/LICENSE', read('LICENSE'), False), (f'{info}/METADATA', metadata.encode(), False)])
-    parts.append((f'{info}/WHEEL', f'Wheel-Version: 1.0\nGenerator: matchbench\nRoot-Is-Purelib: {str(pure).lower()}\nTag: {tag}\n'.encode(), False))
-    sums = [(name, base64.urlsafe_b64encode(hashlib.sha256(data).digest()).rstrip(b'=').decode(), len(data)) for name, data, _ in parts]
-    record = ''.join(f'{name},sha256={sum},{size}\n' for name, sum, size in sums) + f'{info}/RECORD,,\n'
+    about = f'Wheel-Version: 1.0\nGenerator: matchbench\nRoot-Is-Purelib: {str(pure).lower()}\nTag: {tag}\n'
+    parts.append((f'{info}/WHEEL', about.encode(), False))
+    record = ''.join(f'{name},sha256={sum_of(data)},{len(data)}\n' for name, data, _ in parts) + f'{info}/RECORD,,\n'
     parts.append((f'{info}/RECORD', record.encode(), False))
     name = f'matchbench-{number}-{tag}.whl'
     with zipfile.ZipFile(os.path.join(folder, name), 'w', zipfile.ZIP_DEFLATED, compresslevel=9) as wheel:
@@ -75,9 +80,11 @@ def build_wheel(wheel_directory, config_settings=None, metadata_directory=None):
     is_whole = has_release()
     if is_whole:
         data, page = f'matchbench-{number}.data', read('docs', 'matchbench.1')
-        parts += [(f'{data}/scripts/matchbench', read('matchbench'), True), (f'{data}/data/share/man/man1/matchbench.1', page, False),
+        parts += [(f'{data}/scripts/matchbench', read('matchbench'), True),
+                  (f'{data}/data/share/man/man1/matchbench.1', page, False),
                   (f'{data}/data/libexec/matchbench/matchbench.1', page, False)]
-        parts += [(f'{data}/data/libexec/matchbench/{it}', read('release', it), it == 'matchbench') for it in ('matchbench', 'BUILT', 'SHA256SUMS')]
+        for it in ('matchbench', 'BUILT', 'SHA256SUMS'):
+            parts.append((f'{data}/data/libexec/matchbench/{it}', read('release', it), it == 'matchbench'))
     return wheel_of(wheel_directory, parts, not is_whole)
 
 

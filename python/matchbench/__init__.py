@@ -217,19 +217,19 @@ def find_program() -> str:
     found = shutil.which('matchbench')
     if found is not None:
         return found
-    raise ProgramMissing('the program isn\'t built. At the top of the repository `./matchbench solve < examples/two_by_two.txt` '
-                         'proves and builds it, which takes the better part of an hour; a file that was built elsewhere is '
-                         'found by the environment variable MATCHBENCH')
+    raise ProgramMissing('the program is missing. A clone of the repository has it, and so have the packages that are made there; '
+                         '`./matchbench --build` at its top proves and builds it, which takes the better part of an hour. The '
+                         'environment variable MATCHBENCH names a file at another place')
 
 
 @functools.lru_cache(maxsize=None)
 def _released(folder: str) -> str:
-    """The released program in a folder, if its checksum is that of SHA256SUMS there and it runs here."""
+    """The released program in a folder, if its checksum is that of SHA256SUMS there and it runs here; looked at once."""
     path = os.path.join(folder, 'matchbench')
     try:
         with open(os.path.join(folder, 'SHA256SUMS'), encoding='ascii') as sums, open(path, 'rb') as program:
             if f'{hashlib.sha256(program.read()).hexdigest()}  matchbench' not in sums.read().split('\n'):
-                raise ProgramMissing(f'{path} is damaged: it hasn\'t the checksum of SHA256SUMS beside it, so it isn\'t run')
+                raise ProgramMissing(f'{path} doesn\'t have the checksum of SHA256SUMS beside it, so it isn\'t run')
         # Without words the program ends at once, and says so.
         done = subprocess.run([path], stdin=subprocess.DEVNULL, stdout=subprocess.PIPE, stderr=subprocess.PIPE)
     except OSError as fault:

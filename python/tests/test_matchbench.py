@@ -3,6 +3,7 @@
 What asks the program is skipped where none is found.
 """
 import glob
+import hashlib
 import importlib
 import itertools
 import json
@@ -766,6 +767,25 @@ class Programs(unittest.TestCase):
                 os.makedirs(os.path.dirname(path), exist_ok=True)
                 shutil.copy(named, path)
                 self.assertEqual(os.path.realpath(matchbench.find_program()), path)
+
+    def test_released(self):
+        """The released program of the repository is found, and isn't called if its checksum is wrong."""
+        self.program('[ $# -gt 0 ] || echo usage 1\n')
+        named = os.environ['MATCHBENCH']
+        path = os.path.join(os.path.realpath(self.folder), 'release', 'matchbench')
+        os.mkdir(os.path.dirname(path))
+        with open(named, 'rb') as file, open(os.path.join(os.path.dirname(path), 'SHA256SUMS'), 'w', encoding='ascii') as sums:
+            sums.write(f'{hashlib.sha256(file.read()).hexdigest()}  matchbench\n')
+        with mock.patch.dict(os.environ, {'MATCHBENCH': '', 'PATH': self.folder}), \
+                mock.patch.object(matchbench, '__file__', os.path.join(self.folder, 'python', 'matchbench', '__init__.py')):
+            with open(path, 'wb') as file:
+                file.write(b'another one')
+            with self.assertRaises(ProgramMissing) as caught:
+                self.instance.solve()
+            self.assertIn('doesn\'t have the checksum', str(caught.exception))
+            shutil.copy(named, path)
+            with mock.patch.dict(os.environ, {'PATH': '/usr/bin:/bin'}):
+                self.assertEqual(matchbench.find_program(), path)
 
     def test_statuses(self):
         for status, front in ((4, 'answer solve side=proposers\\npair m1 a\\n'), (5, ''), (6, 'answer so'), (8, ''), (70, ''),

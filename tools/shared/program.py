@@ -11,8 +11,8 @@ STATUSES = {4: 'there was no memory', 5: 'reading failed', 6: 'writing failed', 
 
 
 def path():
-    """The file to call: that of `MATCHBENCH` in the environment, else the script at the top of the repository or, where the tools are
-    installed below share/, the one in bin/ there, else what is on the PATH.
+    """The file to call: that of `MATCHBENCH` in the environment, else the script at the top of the repository or, where the tools
+    are installed below share/, the one in bin/ there, else what is on the PATH.
     """
     own = os.environ.get('MATCHBENCH')
     if own:
@@ -22,7 +22,7 @@ def path():
             return os.path.normpath(script)
     found = shutil.which('matchbench')
     if found is None:
-        raise Fault('the program matchbench isn\'t beside the tools and not on the PATH; MATCHBENCH in the environment names its file')
+        raise Fault('matchbench is neither beside the tools nor on the PATH; MATCHBENCH in the environment names its file')
     return found
 
 

@@ -1,5 +1,5 @@
-"""The program that tests call where one is there: that of `MATCHBENCH` in the environment, or the one of these sources that was built
-or is released.
+"""The program that tests call where one is there: that of `MATCHBENCH` in the environment, or the one of these sources, built or
+released.
 """
 import os
 import subprocess

@@ -15,8 +15,8 @@ TOP = os.path.realpath(os.path.join(os.path.dirname(os.path.realpath(__file__)),
 PACKAGES = os.path.join(TOP, 'tools', 'packages')
 TEXT = os.path.join(TOP, 'examples', 'hospitals.txt')
 # What the script, the tools and a virtual environment call. The kit isn't there.
-PLAIN = ('awk', 'bash', 'cat', 'cmp', 'cut', 'dirname', 'env', 'find', 'getconf', 'grep', 'head', 'ls', 'paste', 'python3', 'readlink', 'sed', 'sh',
-         'sha256sum', 'sort', 'tail', 'uname', 'xargs')
+PLAIN = ('bash', 'cat', 'cmp', 'cut', 'dirname', 'env', 'find', 'getconf', 'grep', 'head', 'paste', 'python3', 'readlink', 'sed',
+         'sh', 'sha256sum', 'sort', 'tail', 'uname', 'xargs')
 
 
 def read(*path):
@@ -36,15 +36,16 @@ def completion(shell):
 def completed(line):
     """What bash makes of a line at whose end TAB is hit."""
     words = line.split(' ')
-    calls = f'{completion("bash")}\ncompopt() {{ :; }}\nCOMP_LINE={line!r} COMP_POINT={len(line)}\n_matchbench matchbench {words[-1]!r}\n' \
-        'printf "%s\\n" "${COMPREPLY[@]}"\n'
+    calls = f'{completion("bash")}\ncompopt() {{ :; }}\nCOMP_LINE={line!r} COMP_POINT={len(line)}\n' \
+        f'_matchbench matchbench {words[-1]!r}\nprintf "%s\\n" "${{COMPREPLY[@]}}"\n'
     return subprocess.run(['bash', '-c', calls], stdout=subprocess.PIPE, check=True).stdout.decode().split()
 
 
 class Completions(unittest.TestCase):
     def test_words(self):
         with open(os.path.join(TOP, 'docs', 'FORMATS.md'), encoding='utf-8') as file:
-            commands = re.findall(r'^\| `([a-z]+)[^`]*` \|', file.read().split('\n## The command line\n')[1].split('\n## ')[0], re.M)
+            page = file.read().split('\n## The command line\n')[1].split('\n## ')[0]
+        commands = re.findall(r'^\| `([a-z]+)[^`]*` \|', page, re.M)
         for shell in ('bash', 'zsh', 'fish'):
             text = completion(shell)
             for word in [*commands, '--version', 'NotStable', 'NoOddParty', 'side=reviewers', 'shape=rooms', 'form=json']:
@@ -65,10 +66,10 @@ class Completions(unittest.TestCase):
     @unittest.skipUnless(shutil.which('fish'), 'fish is missing')
     def test_fish(self):
         with tempfile.TemporaryDirectory() as home:
-            for line, words in (('matchbench so', ['solve']), ('matchbench list limit=5 ', ['after=', 'form=json']), ('matchbench check ', []),
-                                ('matchbench --explain CutD', ['CutDiffers'])):
-                done = subprocess.run(['fish', '--no-config', '-c', f'source; complete -C "{line}"'], input=completion('fish').encode(),
-                                      stdout=subprocess.PIPE, env={**os.environ, 'HOME': home}, check=True)
+            how = {'input': completion('fish').encode(), 'stdout': subprocess.PIPE, 'env': {**os.environ, 'HOME': home}}
+            for line, words in (('matchbench so', ['solve']), ('matchbench list limit=5 ', ['after=', 'form=json']),
+                                ('matchbench check ', []), ('matchbench --explain CutD', ['CutDiffers'])):
+                done = subprocess.run(['fish', '--no-config', '-c', f'source; complete -C "{line}"'], **how)
                 self.assertEqual([it.split('\t')[0] for it in done.stdout.decode().splitlines()], words, line)
 
 
@@ -102,7 +103,8 @@ class Packages(unittest.TestCase):
         return os.path.join(self.made, next(it for it in self.names if it.endswith(ending)))
 
     def call(self, *words, text=b'', **env):
-        done = subprocess.run(words, input=text, stdout=subprocess.PIPE, stderr=subprocess.PIPE, cwd=self.room, env={**self.plain, **env})
+        how = {'stdout': subprocess.PIPE, 'stderr': subprocess.PIPE, 'cwd': self.room, 'env': {**self.plain, **env}}
+        done = subprocess.run(words, input=text, **how)
         self.assertEqual((done.returncode, done.stderr), (0, b''), words)
         return done.stdout
 
@@ -126,7 +128,7 @@ class Packages(unittest.TestCase):
         self.assertTrue(re.fullmatch(r'\(\d(, \d){7}\)', ranks), ranks)
 
     def has_tools(self, prefix):
-        """All tools of the folder are there but for those of developers, each with a page, and they find the program below the prefix."""
+        """The tools of the folder are there but for those of developers, each with a page, and find the program there."""
         names = {it for it in os.listdir(os.path.join(TOP, 'tools')) if os.access(os.path.join(TOP, 'tools', it), os.X_OK)
                  and os.path.isfile(os.path.join(TOP, 'tools', it))} - {'packages', 'release'}
         found = [it for it in os.listdir(os.path.join(prefix, 'bin')) if it.startswith('matchbench-')]
@@ -160,7 +162,8 @@ class Packages(unittest.TestCase):
 
     @unittest.skipUnless(shutil.which('dpkg-deb') and shutil.which('lintian'), 'dpkg-deb or lintian is missing')
     def test_lintian(self):
-        said = subprocess.run(['lintian', '--allow-root', '--show-overrides', self.package('.deb')], stdout=subprocess.PIPE).stdout.decode()
+        words = ['lintian', '--allow-root', '--show-overrides', self.package('.deb')]
+        said = subprocess.run(words, stdout=subprocess.PIPE).stdout.decode()
         self.assertEqual([it for it in said.splitlines() if it[0] in 'EO'],
                          ['O: matchbench: unstripped-binary-or-object [usr/libexec/matchbench/matchbench]'], said)
 
