@@ -204,7 +204,7 @@ class Tables(unittest.TestCase):
                  ['p.csv:1: this table has no column with choices; are cells divided by --delimiter \';\'?']),
                 (['', r], [], ['p.csv:1: the table is empty']),
                 ([p, b'n,1\nx,a\ny,\xfcber\n'], [], ['r.csv:3: the table isn\'t in UTF-8']),
-                ([p.encode('utf-16'), r], [], ['p.csv:1: the table isn\'t in UTF-8']),
+                ([p.encode('utf-16')[:-1], r], [], ['p.csv:1: the table isn\'t in UTF-8']),
                 ([p, 'n,1\nx,a\ny,\0\n'], [], ['r.csv:3: this is no table of text']),
                 ([p, 'n,1\nx,"a\ny,b\n'], [], ['r.csv:2: the quotes of this row']),
                 ([p, 'n,1\nx,a\ny,"b" c\n'], [], ['r.csv:3: the quotes of this row']),
@@ -417,7 +417,7 @@ class Tables(unittest.TestCase):
         wanted = 'stable 1 marriage\np Zoe: Sud\nr Sud: Zoe\nend\n'
         for one, other, words in ((p.encode('cp1252'), r.encode('utf-8-sig'), ['cp1252']),
                                   (p.encode('cp850'), r.encode('cp850'), ['cp850']),
-                                  (p.encode('utf-16'), r.encode('utf-16'), ['utf-16']),
+                                  (p.encode('utf-16'), r.encode('cp1252'), ['cp1252']),
                                   (('sep=;\r\n' + p).encode(), r.encode(), ['cp1252']),
                                   (('"sep=;"\n' + p).encode('cp1252'), ('sep=|\n' + r.replace(';', '|')).encode('utf-8-sig'),
                                    ['cp1252'])):
@@ -427,7 +427,6 @@ class Tables(unittest.TestCase):
         for one, words, fault in ((p.encode('cp1252'), [], 'p.csv:2: the table isn\'t in UTF-8; --encoding cp1252 reads it'),
                                   ('n;1\nKühn;x\n'.encode('cp850'), [],
                                    'p.csv:2: the table isn\'t in UTF-8; --encoding cp850 reads it'),
-                                  (p.encode('utf-16'), [], 'p.csv:1: the table isn\'t in UTF-8; --encoding utf-16 reads it'),
                                   ('n;1\nKühn;x\n'.encode('cp850'), ['--encoding', 'cp1252'], 'isn\'t in cp1252 either')):
             self.assertIn(fault, self.refused([one, r], *words))
         self.assertIn('p.csv:3: \'Nord\' isn\'t in', self.refused(['sep=;\nn;1\nZoë;Nord\nBo;Süd\n', r]))
