@@ -109,7 +109,8 @@ class Report(Case):
         for words, what in ((['i.txt', 'i.txt'], 'no answer of the program'),
                             (['i.txt', 'a.txt', '--columns', 'names.csv', 'klasse'], 'there is no column'),
                             (['i.txt', 'a.txt', '--columns', 'own.csv', 'b'], 'no column has names of proposers or reviewers'),
-                            (['i.txt', 'a.txt', '--columns', 'twice.csv', 'b'], 'twice.csv:3: \'ann\' has a row already, on line 2')):
+                            (['i.txt', 'a.txt', '--columns', 'twice.csv', 'b'],
+                             'twice.csv:3: \'ann\' has a row already, on line 2')):
             self.assertIn(what, self.refused('report', *words))
         for answer, what in (('pair ann north', 'ann can\'t have a place at north'), ('pair ben city\npair ann city', 'a.txt:3: '),
                              ('pair zoe city', 'zoe can\'t have'), ('none', 'no such matching')):
