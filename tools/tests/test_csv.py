@@ -633,7 +633,7 @@ class Tables(unittest.TestCase):
 
     @unittest.skipUnless(os.path.exists('/proc/self/status'), 'the system doesn\'t tell how much memory a process takes')
     def test_room(self):
-        """3,000 pupils with 20 choices and 120 schools that rank all of them: 34 MB from tables to instance, and no more back."""
+        """3,000 pupils with 20 choices and 120 schools that rank all of them: 40 MB from tables to instance, and no more back."""
         draw = random.Random(1)
         schools = {f'School {i}': [] for i in range(120)}
         pupils = {f'Pupil {i}': draw.sample(list(schools), 20) for i in range(3000)}
@@ -645,12 +645,12 @@ class Tables(unittest.TestCase):
                                   [[name, 25, *draw.sample(row, len(row))] for name, row in schools.items()]))
         text, most = self.measured('from_csv', '--names', 'names.csv', 'p.csv', 'r.csv')
         self.assertEqual(text.count('\n'), 3122)
-        self.assertLess(most, 34_000)
+        self.assertLess(most, 40_000)
         self.put('answer', 'answer solve side=proposers\n' + ''.join(f'pair Pupil_{i} School_{i // 25}\n' for i in range(3000)) +
                  'end\n')
         placed, most = self.measured('to_csv', 'names.csv', 'answer')
         self.assertEqual((placed.count('\n'), placed.splitlines()[-1]), (3001, 'Pupil 2999,School 119'))
-        self.assertLess(most, 34_000)
+        self.assertLess(most, 40_000)
 
     def test_wrong_answers(self):
         right = text_of(EXAMPLES, 'both_sides.solve')
