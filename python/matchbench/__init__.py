@@ -58,7 +58,8 @@ WANTED = '{} and {} would both rather have one another'
 REASONS = {
     'TooLong': 'the input has more than 16,777,216 bytes',
     'BadJson': 'with `form=json`: the input is no instance in JSON',
-    'BadByte': 'this line has a byte that may only stand in a comment',
+    'BadByte': 'this line has a byte that may only stand in a comment: names have the letters A to Z and a to z, digits, `_`, '
+               '`.` and `-`',
     'BadHeader': 'the first line with a token is no header, or there is none: `stable 1 marriage`, `stable 1 hospitals`, '
                  '`stable 1 roommates`, or one of these with 2',
     'BadLine': 'this line has none of the forms that its kind of instance has in its format',

@@ -4,7 +4,7 @@
 HINTS = {
     'TooLong': 'shorter names and fewer comments make it shorter',
     'BadJson': 'without form=json the input is read as a text',
-    'BadByte': 'names have letters A to Z and a to z, digits and _ . - alone; tools/from_csv makes such names of any others',
+    'BadByte': 'tools/from_csv makes names of this form of any others',
     'BadHeader': 'write `stable 1 marriage`, `stable 1 hospitals` or `stable 1 roommates`; with 2 in the place of 1 the text is of '
                  'format 2',
     'BadLine': 'a line begins with p, r, weight, force or forbid, or is `end`; of roommates with p, or is `end`',

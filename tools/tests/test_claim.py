@@ -162,7 +162,7 @@ class Explain(Case):
                 (two + 'p m: a, b\n', 'BadByte 2', 'names on a list have a blank between them'),
                 (two + 'p m: (a b)\n', 'BadByte 2', 'lists have no ties'),
                 (two + 'p m&n: a\n', 'BadByte 2', '\'&\' can\'t stand here'),
-                (two + 'p Mü: a\n', 'BadByte 2', 'tools/from_csv makes such names'),
+                (two + 'p Mü: a\n', 'BadByte 2', 'tools/from_csv makes names of this form'),
                 ('\xef\xbb\xbf' + two, 'BadByte 1', 'byte order mark'),
                 ('\xff\xfes\0t\0', 'BadByte 1', 'UTF-16'), ('{"kind"', 'BadByte 1', 'is lines'),
                 ('stable 1 marriage\rp a:', 'BadByte 1', 'CR alone'),

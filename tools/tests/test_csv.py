@@ -204,7 +204,7 @@ class Tables(unittest.TestCase):
                  ['p.csv:1: this table has no column with choices; are cells divided by --delimiter \';\'?']),
                 (['', r], [], ['p.csv:1: the table is empty']),
                 ([p, b'n,1\nx,a\ny,\xfcber\n'], [], ['r.csv:3: the table isn\'t in UTF-8']),
-                ([p.encode('utf-16'), r], [], ['p.csv:1: the table isn\'t in UTF-8']),
+                ([p.encode('utf-16')[:-1], r], [], ['p.csv:1: the table isn\'t in UTF-8']),
                 ([p, 'n,1\nx,a\ny,\0\n'], [], ['r.csv:3: this is no table of text']),
                 ([p, 'n,1\nx,"a\ny,b\n'], [], ['r.csv:2: the quotes of this row']),
                 ([p, 'n,1\nx,a\ny,"b" c\n'], [], ['r.csv:3: the quotes of this row']),
@@ -417,7 +417,7 @@ class Tables(unittest.TestCase):
         wanted = 'stable 1 marriage\np Zoe: Sud\nr Sud: Zoe\nend\n'
         for one, other, words in ((p.encode('cp1252'), r.encode('utf-8-sig'), ['cp1252']),
                                   (p.encode('cp850'), r.encode('cp850'), ['cp850']),
-                                  (p.encode('utf-16'), r.encode('utf-16'), ['utf-16']),
+                                  (p.encode('utf-16'), r.encode('cp1252'), ['cp1252']),
                                   (('sep=;\r\n' + p).encode(), r.encode(), ['cp1252']),
                                   (('"sep=;"\n' + p).encode('cp1252'), ('sep=|\n' + r.replace(';', '|')).encode('utf-8-sig'),
                                    ['cp1252'])):
@@ -427,7 +427,6 @@ class Tables(unittest.TestCase):
         for one, words, fault in ((p.encode('cp1252'), [], 'p.csv:2: the table isn\'t in UTF-8; --encoding cp1252 reads it'),
                                   ('n;1\nKühn;x\n'.encode('cp850'), [],
                                    'p.csv:2: the table isn\'t in UTF-8; --encoding cp850 reads it'),
-                                  (p.encode('utf-16'), [], 'p.csv:1: the table isn\'t in UTF-8; --encoding utf-16 reads it'),
                                   ('n;1\nKühn;x\n'.encode('cp850'), ['--encoding', 'cp1252'], 'isn\'t in cp1252 either')):
             self.assertIn(fault, self.refused([one, r], *words))
         self.assertIn('p.csv:3: \'Nord\' isn\'t in', self.refused(['sep=;\nn;1\nZoë;Nord\nBo;Süd\n', r]))
@@ -634,7 +633,7 @@ class Tables(unittest.TestCase):
 
     @unittest.skipUnless(os.path.exists('/proc/self/status'), 'the system doesn\'t tell how much memory a process takes')
     def test_room(self):
-        """3,000 pupils with 20 choices and 120 schools that rank all of them: 34 MB from tables to instance, and no more back."""
+        """3,000 pupils with 20 choices and 120 schools that rank all of them: 40 MB from tables to instance, and no more back."""
         draw = random.Random(1)
         schools = {f'School {i}': [] for i in range(120)}
         pupils = {f'Pupil {i}': draw.sample(list(schools), 20) for i in range(3000)}
@@ -646,12 +645,12 @@ class Tables(unittest.TestCase):
                                   [[name, 25, *draw.sample(row, len(row))] for name, row in schools.items()]))
         text, most = self.measured('from_csv', '--names', 'names.csv', 'p.csv', 'r.csv')
         self.assertEqual(text.count('\n'), 3122)
-        self.assertLess(most, 34_000)
+        self.assertLess(most, 40_000)
         self.put('answer', 'answer solve side=proposers\n' + ''.join(f'pair Pupil_{i} School_{i // 25}\n' for i in range(3000)) +
                  'end\n')
         placed, most = self.measured('to_csv', 'names.csv', 'answer')
         self.assertEqual((placed.count('\n'), placed.splitlines()[-1]), (3001, 'Pupil 2999,School 119'))
-        self.assertLess(most, 34_000)
+        self.assertLess(most, 40_000)
 
     def test_wrong_answers(self):
         right = text_of(EXAMPLES, 'both_sides.solve')

@@ -75,7 +75,7 @@ class Report(Case):
         """Tables for Excel, with own words and own columns."""
         self.put('own.csv', 'Nr;Klasse;Ort\r\nÄnnchen;4a;Köln\r\nBen; B.;4b;Bonn\r\n'.replace('Ben; B.', '"Ben; B."') +
                  'Dörte;4c;\r\n')
-        self.put('orte.csv', 'Schule,Ort\nNord,Jülich\n')
+        self.put('orte.csv', 'Ort,Schule\nJülich,Nord\nBonn,Nirgends\nKöln,Nirgends\n')
         self.call('report', 'i.txt', 'a.txt', '--names', 'names.csv', '--proposers', 'p.csv', '--reviewers', 'r.csv', '--summary',
                   's.csv', '--excel', 'de',
                   '--word', 'proposer=Schüler', '--word', 'no place=kein Platz', '--word', 'choice=Wunsch', '--columns', 'own.csv',
@@ -104,9 +104,13 @@ class Report(Case):
         self.assertEqual(heights, [240, 240])
 
     def test_refused(self):
+        self.put('own.csv', 'a,b\nx,y\n')
+        self.put('twice.csv', 'a,b\nann,1\nann,2\n')
         for words, what in ((['i.txt', 'i.txt'], 'no answer of the program'),
                             (['i.txt', 'a.txt', '--columns', 'names.csv', 'klasse'], 'there is no column'),
-                            (['i.txt', 'a.txt', '--columns', 'names.csv', 'name'], 'there is no name of a proposer or a reviewer')):
+                            (['i.txt', 'a.txt', '--columns', 'own.csv', 'b'], 'no column has names of proposers or reviewers'),
+                            (['i.txt', 'a.txt', '--columns', 'twice.csv', 'b'],
+                             'twice.csv:3: \'ann\' has a row already, on line 2')):
             self.assertIn(what, self.refused('report', *words))
         for answer, what in (('pair ann north', 'ann can\'t have a place at north'), ('pair ben city\npair ann city', 'a.txt:3: '),
                              ('pair zoe city', 'zoe can\'t have'), ('none', 'no such matching')):
