@@ -498,7 +498,8 @@ class _Side:
 
 class Instance(InstanceViews):
     """An instance: its `kind` ('marriage', 'hospitals' or 'roommates'), the lists of its `proposers` and of its `reviewers`, whose
-    `capacities` say how many each takes, and the names that they have in the text; of roommates both sides are the persons.
+    `capacities` say how many each takes, `proposer_names` and `reviewer_names`, those of the text, `weights`, each as one number or
+    two, `forced` and `forbidden` pairs, and who is `compared` first, or None; of roommates both sides are the persons.
 
     `marriage`, `hospitals`, `roommates`, `from_text`, `from_json`, `from_tables` and `make` make one, which doesn't change. Two are
     equal if they have the same parts in the same order. Most methods start the program, and raise ProgramMissing, Failed, and
@@ -516,9 +517,9 @@ class Instance(InstanceViews):
         self.proposers, self.reviewers = MappingProxyType(sides[0].lists), MappingProxyType(sides[-1].lists)
         self.capacities = MappingProxyType(sides[-1].capacities)
         self.proposer_names, self.reviewer_names = MappingProxyType(sides[0].names), MappingProxyType(sides[-1].names)
-        self._weights = {pair: _weight(pair, it) for pair, it in (weights or {}).items()}
-        self._forced, self._forbidden = [(p, r) for p, r in forced], [(p, r) for p, r in forbidden]
-        self._order = None if order is None else list(order)
+        self.weights = MappingProxyType({pair: _weight(pair, it) for pair, it in (weights or {}).items()})
+        self.forced, self.forbidden = tuple((p, r) for p, r in forced), tuple((p, r) for p, r in forbidden)
+        self.compared = None if order is None else tuple(order)
         self._text = '\n'.join([*self._lines_of_text(), 'end', '']) if text is None else text
 
     @classmethod
@@ -610,7 +611,7 @@ class Instance(InstanceViews):
 
     def __reduce__(self) -> Tuple[Any, ...]:
         sides = self._proposers, self._reviewers
-        return Instance, (self.kind, sides, self._weights, self._forced, self._forbidden, self._order, self._text)
+        return Instance, (self.kind, sides, dict(self.weights), self.forced, self.forbidden, self.compared, self._text)
 
     def __eq__(self, other: object) -> bool:
         return isinstance(other, Instance) and self._parts() == other._parts()
@@ -621,22 +622,22 @@ class Instance(InstanceViews):
     def _parts(self) -> Tuple[object, ...]:
         """What two equal instances have alike; the first four can be hashed."""
         agents = tuple(self.proposers.items()), tuple(self.reviewers.items()), tuple(self.capacities.items())
-        return (self.kind, *agents, {pair: (it + (0,))[:2] for pair, it in self._weights.items()}, set(self._forced),
-                set(self._forbidden), list(dict.fromkeys([*(self._order or ()), *self.proposers])))
+        return (self.kind, *agents, {pair: (it + (0,))[:2] for pair, it in self.weights.items()}, set(self.forced),
+                set(self.forbidden), list(dict.fromkeys([*(self.compared or ()), *self.proposers])))
 
     def _lines_of_text(self) -> Iterator[str]:
         """The lines of the text before `end`."""
-        is_second = self._order is not None or any(len(it) > 1 for it in self._weights.values())
+        is_second = self.compared is not None or any(len(it) > 1 for it in self.weights.values())
         yield f'stable {2 if is_second else 1} {self.kind}'
         yield from self._proposers.lines('p', self._reviewers, False)
         if self.kind != 'roommates':
             yield from self._reviewers.lines('r', self._proposers, self.kind == 'hospitals')
-        for pair, numbers in self._weights.items():
+        for pair, numbers in self.weights.items():
             yield ' '.join([*self._lines('weight', [pair], 'the weights'), *map(str, numbers)])
-        yield from self._lines('force', self._forced, 'the forced pairs')
-        yield from self._lines('forbid', self._forbidden, 'the forbidden pairs')
-        if self._order is not None:
-            yield ' '.join(['order', *(self._proposers.name(it, 'the order') for it in self._order)])
+        yield from self._lines('force', self.forced, 'the forced pairs')
+        yield from self._lines('forbid', self.forbidden, 'the forbidden pairs')
+        if self.compared is not None:
+            yield ' '.join(['order', *(self._proposers.name(it, 'the order') for it in self.compared)])
 
     def _lines(self, keyword: str, pairs: Iterable[Pair], where: str = 'the matching') -> Iterator[str]:
         """The lines of pairs, which are named somewhere."""

@@ -181,7 +181,8 @@ def drawn(rows: List[List[Any]], boxes: Mapping[Any, Box], sizes: Mapping[Any, T
         path = ' '.join(f'{x:.0f},{y:.0f}' for x, y in points)
         lines.append(f'<polyline points="{path}" fill="none" stroke="#777777" marker-end="url(#matchbench-tip)"/>')
         if label:
-            x, y = (points[0][0] + points[1][0]) / 2 + 4, (points[0][1] + points[1][1]) / 2 + 4
+            # Edges cross in their middle, and labels shouldn't.
+            x, y = (0.7 * one + 0.3 * other + 4 for one, other in zip(*points[:2]))
             lines.append(f'<text x="{x:.0f}" y="{y:.0f}" font-size="10" fill="#333333">{html.escape(label)}</text>')
     for it, box in boxes.items():
         (x, y), (wide, deep) = at[it], sizes[it]

@@ -71,7 +71,7 @@ def nets(light: Any) -> List[Any]:
     rooms = rooms_of(light.gains)
     rooms.update({(it.number, needed): None for it in light.rotations for needed in it.needs})
     moves = [(it.number, p, old.reviewer, new.reviewer) for it in light.rotations for p, old, new in it.moves()]
-    for pairs, is_forced in ((instance._forced, True), (instance._forbidden, False)):
+    for pairs, is_forced in ((instance.forced, True), (instance.forbidden, False)):
         for p, r in pairs:
             brings = [number for number, one, old, new in moves if one == p and old != r == new]
             takes = [number for number, one, old, new in moves if one == p and old == r != new]

@@ -558,6 +558,8 @@ class Names(unittest.TestCase):
         self.assertEqual(dict(instance.reviewer_names), {'Дом 5': 'r1', 'west': 'west'})
         self.assertEqual(dict(instance.capacities), {'Дом 5': 0, 'west': 2})
         self.assertEqual(repr(instance), '<Instance of hospitals: 2 proposers, 2 reviewers>')
+        self.assertEqual((dict(instance.weights), instance.forced, instance.forbidden, instance.compared),
+                         ({('Zoë', 'west'): (-3,)}, (('Zoë', 'west'),), (('ann', 'Дом 5'),), None))
         again = pickle.loads(pickle.dumps(instance))
         self.assertEqual((again, again.to_text()), (instance, instance.to_text()))
 
