@@ -70,6 +70,14 @@ class OrderView {
 
   endPreview() { this.states = []; this.nodes.forEach(it => it.classList.remove('also')); this.show(); }
 
+  // Scrolls the picture, and not the page, to a rotation that isn't seen.
+  see(i) {
+    if (this.boxes || i < 0) return;
+    const box = $('order'), out = box.getBoundingClientRect(), own = this.nodes[i].getBoundingClientRect();
+    if (own.left < out.left || own.right > out.right) box.scrollLeft += own.left - out.left - out.width / 2;
+    if (own.top < out.top || own.bottom > out.bottom) box.scrollTop += own.top - out.top - out.height / 2;
+  }
+
   show() {
     const set = this.walk.closed(), { model } = this;
     this.nodes.forEach((it, i) => {

@@ -13,21 +13,21 @@ function proposalsOf(it) {
     steps.push(step);
     if (!rank.has(row) || it.otherCaps[other] === 0) {
       step.strikes = [[row, other]];
-      step.text = `${name} proposes to ${to}, which ${rank.has(row) ? 'has no place' : `doesn’t list ${name}`}.`;
+      step.text = `${name} proposes to ${to}: ${rank.has(row) ? 'no place' : `${to} doesn’t list ${name}`}.`;
       continue;
     }
     const full = held[other].length === it.otherCaps[other];
     const worst = held[other].reduce((w, q) => w < 0 || rank.get(q) > rank.get(w) ? q : w, -1);
     if (full && rank.get(worst) < rank.get(row)) {
       step.strikes = [[row, other]];
-      step.text = `${name} proposes to ${to}, which would rather keep ${held[other].map(q => it.names[q]).join(', ')}.`;
+      step.text = `${name} proposes to ${to}: refused, ${to} would rather keep ${held[other].map(q => it.names[q]).join(', ')}.`;
       continue;
     }
-    step.text = `${name} proposes to ${to}, which has a place, and holds ${name}.`;
+    step.text = `${name} proposes to ${to}: there is a place, and ${to} holds ${name}.`;
     if (full) {
       step.strikes = [[worst, other]];
       const out = it.names[worst];
-      step.text = `${name} proposes to ${to}, which likes ${name} better than ${out}, and sends ${out} away.`;
+      step.text = `${name} proposes to ${to}: ${to} likes ${name} better than ${out}, and sends ${out} away.`;
       held[other] = held[other].filter(q => q !== worst);
       has[worst]--;
       if (!queue.includes(worst)) queue.push(worst);
@@ -74,9 +74,9 @@ function phaseOne(model) {
     holds[q] = p;
     step.holds = [q, [p]];
     const out = step.strikes.filter((_, i) => i % 2 === 0).map(it => names[it[1]]);
-    step.text = `${names[p]} proposes to ${names[q]}, who holds ${names[p]}` +
+    step.text = `${names[p]} proposes to ${names[q]}: ${names[q]} holds ${names[p]}` +
       (before >= 0 ? ` in place of ${names[before]}` : '') +
-      (out.length ? `, and strikes ${out.join(', ')}, whom it likes less.` : '.');
+      (out.length ? `, and strikes ${out.join(', ')}, who come later on this list.` : '.');
   }
   return { names, otherNames: names, lists: model.pList, steps };
 }

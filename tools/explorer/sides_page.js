@@ -95,7 +95,8 @@ function start() {
   const facts = [`${model.kind}: ${model.P.length} proposers`, `${model.R.length} reviewers`, plural(model.k, 'rotation'), count];
   $('facts').textContent = (model.conditions ? [...facts, plural(model.conditions, 'condition')] : facts).join(', ');
   startJumps();
-  const acts = { up: () => walk.up(), down: () => walk.down(), undo: () => walk.undo(), setA: () => walk.keep('A'),
+  const acts = { up: () => orderView.see(walk.up()), down: () => orderView.see(walk.down()), undo: () => walk.undo(),
+    setA: () => walk.keep('A'),
     setB: () => walk.keep('B'), hand: () => walk.setHand(!walk.hand) };
   for (const [id, act] of Object.entries(acts)) $(id).addEventListener('click', act);
   startBar();
