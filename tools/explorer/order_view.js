@@ -70,13 +70,8 @@ class OrderView {
 
   endPreview() { this.states = []; this.nodes.forEach(it => it.classList.remove('also')); this.show(); }
 
-  // Scrolls the picture, and not the page, to a rotation that isn't seen.
-  see(i) {
-    if (this.boxes || i < 0) return;
-    const box = $('order'), out = box.getBoundingClientRect(), own = this.nodes[i].getBoundingClientRect();
-    if (own.left < out.left || own.right > out.right) box.scrollLeft += own.left - out.left - out.width / 2;
-    if (own.top < out.top || own.bottom > out.bottom) box.scrollTop += own.top - out.top - out.height / 2;
-  }
+  // Scrolls to a rotation.
+  see(i) { if (!this.boxes && i >= 0) see($('order'), this.nodes[i]); }
 
   show() {
     const set = this.walk.closed(), { model } = this;

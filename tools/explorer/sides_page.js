@@ -104,8 +104,8 @@ function start() {
     ...Object.fromEntries(model.marks.map((mark, i) => [String(i + 1), pressMark(mark.id)])) });
   if (isLarge) {
     $('onlyMoving').checked = $('onlyStable').checked = true;
-    $('main').classList.add('large');
   } else $('exportBox').open = $('netBox').open = true;
+  if (isLarge || !latticeView.few) $('main').classList.add('large');
   $('agreement').textContent = 'From the lines of rotations it makes closed sets and their matchings, and looks for pairs that block ' +
     `them. ${model.agreement(rows).text}`;
   const sides = { 'proposers propose': () => deferredAcceptance(model, false),
