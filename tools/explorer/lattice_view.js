@@ -24,7 +24,8 @@ class LatticeView {
     const wide = 2 * radius + (this.few ? 26 + Math.max(...labels) : 6);
     const it = laidOut(rows.flatMap((row, size) => row.map(() => size)), pairs, () => [wide, 2 * radius],
       { gap: 8, between: this.few ? 36 : 20 });
-    const middle = n => { const [x, y] = it.at[n]; return [Math.round(this.few ? x - wide / 2 + radius + 18 : x + 14), Math.round(y)]; };
+    const middle = n => { const [x, y] = it.at[n]; return [Math.round(this.few ? x - wide / 2 + radius + 18 : x + 14),
+      Math.round(y)]; };
     const lines = [], numbered = [];
     for (const [a, b, j] of pairs) {
       const [x1, y1] = middle(a), [x2, y2] = middle(b), length = Math.hypot(x2 - x1, y2 - y1), cut = (radius + 2) / length;

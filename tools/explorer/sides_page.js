@@ -26,7 +26,7 @@ const listsView = new ListsView(model, [
 const compareView = new CompareView(walk);
 
 const both = () => { const { A, B } = walk, of = walk.now(); return [A || of, B || of]; };
-const picturesOf = { order: 'the order of the rotations', lattice: 'the stable matchings', net: 'the net' };
+const picturesOf = { order: 'the order of the rotations', lattice: 'the stable matchings', net: 'the net', tallies: 'the tallies' };
 const exportView = new ExportView({
   check: { label: 'check: the instance and this matching', file: 'both.txt', text: () => data.text + claimText(model, walk.now()),
     what: () => './matchbench check < both.txt says whether it is stable and its regret is as written' },

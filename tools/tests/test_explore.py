@@ -173,6 +173,7 @@ class Pages(unittest.TestCase):
             status, page, fault = explore(text)
             self.assertEqual((status, page), (1, ''))
             self.assertIn(what, fault)
+            self.assertEqual('tools/trim' in fault, what == 'TooManySeats')
 
     def test_words(self):
         for words in (['--most', '0'], ['--most', '1001'], ['--most', 'x'], ['--m', '3'], ['a', 'b']):
