@@ -41,6 +41,13 @@ const textWidth = (() => {
   };
 })();
 
+// Scrolls a box, and not the page, to an element that isn't seen in it.
+function see(box, it) {
+  const out = box.getBoundingClientRect(), own = it.getBoundingClientRect();
+  if (own.left < out.left || own.right > out.right) box.scrollLeft += own.left - out.left - out.width / 2;
+  if (own.top < out.top || own.bottom > out.bottom) box.scrollTop += own.top - out.top - out.height / 2;
+}
+
 // The one line that tells what happened.
 function tell(text) { $('told').textContent = text; }
 

@@ -3,18 +3,26 @@
 // A picture's styles, set in it, so that it looks alone as it does in the page.
 const STYLES = ['fill', 'stroke', 'stroke-width', 'stroke-dasharray', 'font-weight', 'font-family', 'font-size', 'paint-order'];
 
-function alone(root) {
+function styled(root) {
   const copy = root.cloneNode(true), from = root.querySelectorAll('*'), to = copy.querySelectorAll('*');
   from.forEach((it, i) => {
     const style = getComputedStyle(it);
     for (const name of STYLES) to[i].style.setProperty(name, style.getPropertyValue(name));
   });
   copy.removeAttribute('style');
-  copy.style.setProperty('background', getComputedStyle(document.body).getPropertyValue('--paper'));
-  return new XMLSerializer().serializeToString(copy);
+  return copy;
 }
 
-function pictureText(box) { const it = $(box) && $(box).querySelector('svg'); return it ? alone(it) : ''; }
+// The pictures of a box as one text, side by side; '' where it has none.
+function pictureText(box) {
+  const all = [...$(box).querySelectorAll('svg')].map(styled), size = (it, name) => +it.getAttribute(name);
+  if (!all.length) return '';
+  let width = 0;
+  for (const it of all) { it.setAttribute('x', width); width += size(it, 'width'); }
+  const root = svg('svg', { xmlns: SVG, width, height: Math.max(...all.map(it => size(it, 'height'))) }, ...all);
+  root.style.setProperty('background', getComputedStyle(document.body).getPropertyValue('--paper'));
+  return new XMLSerializer().serializeToString(root);
+}
 
 class ExportView {
   // `forms` has for each word of the choice a label, the name of a file, what is done with it, and what makes the text.

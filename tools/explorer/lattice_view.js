@@ -19,12 +19,13 @@ class LatticeView {
     this.few = sets.length <= 40;
     const radius = this.few ? 15 : sets.length > 150 ? 9 : 11, names = sets.map(set => this.shortName(set));
     const tags = this.tags();
-    const labels = sets.map((set, i) => Math.max(textWidth(names[i], 10.5),
-      textWidth(this.tagText(tags.get(model.key(set))), 10.5)));
+    const labels = sets.map((set, i) => Math.max(textWidth(names[i], 11),
+      textWidth(this.tagText(tags.get(model.key(set))), 12)));
     const wide = 2 * radius + (this.few ? 26 + Math.max(...labels) : 6);
     const it = laidOut(rows.flatMap((row, size) => row.map(() => size)), pairs, () => [wide, 2 * radius],
       { gap: 8, between: this.few ? 36 : 20 });
-    const middle = n => { const [x, y] = it.at[n]; return [Math.round(this.few ? x - wide / 2 + radius + 18 : x), Math.round(y)]; };
+    const middle = n => { const [x, y] = it.at[n]; return [Math.round(this.few ? x - wide / 2 + radius + 18 : x + 14),
+      Math.round(y)]; };
     const lines = [], numbered = [];
     for (const [a, b, j] of pairs) {
       const [x1, y1] = middle(a), [x2, y2] = middle(b), length = Math.hypot(x2 - x1, y2 - y1), cut = (radius + 2) / length;
@@ -54,7 +55,7 @@ class LatticeView {
     });
     const nodes = [...this.nodes.values()].map(it => it.node);
     roving(nodes);
-    $('lattice').replaceChildren(picture(it.width + (this.few ? 0 : 8), it.height, 'the lattice of the stable matchings',
+    $('lattice').replaceChildren(picture(it.width + (this.few ? 0 : 20), it.height, 'the lattice of the stable matchings',
       [svg('defs', {}, arrow('route')), ...lines, ...numbered, ...nodes]));
     const told = [`${sets.length}`, sets.length > 1 ? 'each line one rotation more, downwards' : '',
       model.conditions ? 'dashed: not allowed' : ''];
@@ -91,6 +92,7 @@ class LatticeView {
     const key = set ? model.key(set) : null, keyOf = of => { const it = of && model.setOf(of); return it ? model.key(it) : null; };
     const a = keyOf(walk.A), b = keyOf(walk.B), route = walk.route() || [], steps = new Map();
     route.slice(1).forEach((step, i) => steps.set(`${model.key(route[i].set)} ${model.key(step.set)}`, i));
+    if (!this.few && this.nodes.has(key)) see($('lattice'), this.nodes.get(key).node);
     this.nodes.forEach(({ node }, own) => {
       node.setAttribute('aria-current', own === key);
       node.classList.toggle('kept', own === a || own === b);

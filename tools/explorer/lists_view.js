@@ -4,7 +4,8 @@ class ListsView {
   // agent and an entry into a pair; `stable` says whether a pair is in some stable matching, or is null where that isn't known.
   constructor(model, sides, stable, onHand) {
     Object.assign(this, { model, sides, stable, onHand, built: sides.map(() => new Map()), rows: sides.map(() => []) });
-    this.movable = sides.map(side => side.lists.map((list, own) => !stable || list.filter(it => stable(...side.pair(own, it))).length > 1));
+    this.movable = sides.map(side => side.lists.map((list, own) => !stable
+      || list.filter(it => stable(...side.pair(own, it))).length > 1));
     for (const id of ['onlyMoving', 'onlyStable', 'find']) {
       if ($(id)) $(id).addEventListener('input', () => this.show(...this.last));
     }
@@ -56,7 +57,8 @@ class ListsView {
         : 'in no stable matching';
       const told = [side.ranks[own].get(it), isNow && 'the partner now', where, isBad && 'blocks'].filter(word => word);
       const values = { class: words.join(' '), title: told.join(', ') }, name = side.others[it] + (isBad ? ' ✗' : '');
-      return hand && acceptable ? el('button', { ...values, 'aria-pressed': isNow, on: () => this.onHand(p, r) }, name)
+      return hand && !(side.same && own === it) ? el('button', { ...values, 'aria-pressed': isNow, on: () => this.onHand(p, r) },
+        name)
         : el('span', values, name);
     });
     const row = el('tr', { 'data-own': own }, el('th', { scope: 'row' }, side.names[own] + (side.places ? side.places(own) : '')),

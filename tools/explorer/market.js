@@ -2,6 +2,7 @@
 // row agent's partner, or -1. The rows are the proposers and the columns the reviewers; in roommates both are the persons.
 class Market {
   constructor(rows, columns, shownRows, shownColumns) {
+    this.free = 'a free place';
     this.P = rows.map(agent => agent.name);
     this.R = columns.map(agent => agent.name);
     this.pShown = this.P.map(name => shownRows[name] || name);
@@ -67,8 +68,8 @@ class Market {
   // A pair that blocks, as a sentence.
   blockingText(of, it) {
     const p = this.pShown[it.p], r = this.rShown[it.r];
-    return `${p} and ${r}: ${r} is choice ${it.rank} of ${p}, who has ${of[it.p] < 0 ? 'nobody' : `choice ${it.own}`}; ` +
-      `${p} is choice ${it.back} of ${r}, which has ${it.worst === Infinity ? 'a free place' : `choice ${it.worst}`}`;
+    return `${p} and ${r}: ${r} is choice ${it.rank} of ${p}, and ${p} has ${of[it.p] < 0 ? 'nobody' : `choice ${it.own}`}; ` +
+      `${p} is choice ${it.back} of ${r}, and ${r} has ${it.worst === Infinity ? this.free : `choice ${it.worst}`}`;
   }
 
   // How often each rank occurs: of the rows, whose unmatched ones count at the end, and of the columns' places that are filled.

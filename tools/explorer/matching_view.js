@@ -15,7 +15,7 @@ class MatchingView {
   show(of, before, note, extra) {
     const { model } = this, sums = model.figures(of);
     $('setNote').textContent = note;
-    const figure = (word, n) => el('span', {}, `${word} `, el('b', {}, String(n)));
+    const figure = (word, n) => el('span', {}, `${word} `, el('b', {}, String(n).replace(/-/g, '−')));
     $('figures').replaceChildren(figure('matched', `${sums.matched} of ${model.P.length}`), figure('first choices', sums.firsts),
       ...this.words.sums(sums).map(it => figure(...it)),
       figure('regret', sums.regret), ...extra.map(it => figure(...it)));
@@ -25,22 +25,22 @@ class MatchingView {
     this.showRows(of, before);
   }
 
-  // How often each rank occurs: bars with their numbers, for ranks up to 6, later ones together, and nobody.
+  // How often each rank occurs: at most eight bars with their numbers, of one rank or of several together, and one for nobody.
   histogram(word, counts) {
-    const bars = [1, 2, 3, 4, 5, 6].map(rank => [String(rank), counts.get(rank) || 0]);
-    let later = 0;
-    counts.forEach((n, rank) => { if (rank > 6) later += n; });
-    if (later) bars.push(['7+', later]);
-    while (bars.length > 1 && !bars[bars.length - 1][1]) bars.pop();
+    const ranks = [...counts.keys()].filter(it => it !== 'none'), each = Math.ceil(Math.max(1, ...ranks) / 8), bars = [];
+    for (let from = 1; from === 1 || from <= Math.max(...ranks); from += each) {
+      const own = ranks.filter(rank => rank >= from && rank < from + each);
+      bars.push([each === 1 ? `${from}` : `${from}–${from + each - 1}`, own.reduce((sum, rank) => sum + counts.get(rank), 0)]);
+    }
     if (counts.get('none')) bars.push(['none', counts.get('none')]);
-    const most = Math.max(1, ...bars.map(it => it[1])), high = 34;
+    const most = Math.max(1, ...bars.map(it => it[1])), high = 34, wide = each > 9 ? 50 : each > 1 ? 38 : 30;
     const inside = bars.flatMap(([rank, n], i) => {
-      const h = Math.round(n / most * high), x = i * 30;
+      const h = Math.round(n / most * high), x = i * wide + wide / 2 - 14;
       return [svg('rect', { class: 'bar', x: x + 4, y: 14 + high - h, width: 20, height: h }),
         svg('text', { class: 'tally', x: x + 14, y: 11 + high - h, 'text-anchor': 'middle' }, n ? `${n}` : ''),
         svg('text', { class: 'tag', x: x + 14, y: 28 + high, 'text-anchor': 'middle' }, rank)];
     });
-    return el('figure', {}, el('figcaption', {}, word), picture(bars.length * 30, 64,
+    return el('figure', {}, el('figcaption', {}, word), picture(bars.length * wide, 64,
       `${word}: ${bars.map(([rank, n]) => `${n} of rank ${rank}`).join(', ')}`, inside));
   }
 

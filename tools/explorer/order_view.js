@@ -70,6 +70,9 @@ class OrderView {
 
   endPreview() { this.states = []; this.nodes.forEach(it => it.classList.remove('also')); this.show(); }
 
+  // Scrolls to a rotation.
+  see(i) { if (!this.boxes && i >= 0) see($('order'), this.nodes[i]); }
+
   show() {
     const set = this.walk.closed(), { model } = this;
     this.nodes.forEach((it, i) => {

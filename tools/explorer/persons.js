@@ -3,6 +3,7 @@ class Persons extends Market {
   constructor(instance, answers, names) {
     super(instance.persons, instance.persons, names.person || {}, names.person || {});
     this.kind = 'roommates';
+    this.free = 'nobody';
     this.answers = answers;
     this.listed = answers.list.all('vector').map(fields => this.ofVector(fields[0]));
     const number = name => this.pNumber.get(name);

@@ -23,7 +23,7 @@ const exportView = new ExportView({
     what: () => `${claimCommand('stable', data)} | ./matchbench check` },
   cursor: { label: 'a cursor for list after=', file: 'cursor.txt', text: () => `${model.vectorOf(walk.of)}\n`,
     what: () => `./matchbench list after=… < ${quoted(data.file)} lists those behind this one` },
-  parties: { label: 'a picture of the first circle (SVG)', file: 'party.svg', text: () => pictureText('parties'),
+  parties: { label: 'a picture of the circles (SVG)', file: 'parties.svg', text: () => pictureText('parties'),
     what: () => 'a picture for slides' },
 }, () => model.breaches(walk.of).length || model.blocking(walk.of).length || model.without.size
   ? { note: 'This matching isn’t stable with everybody in it, so the program makes no certificate of it.',

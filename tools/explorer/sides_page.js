@@ -26,7 +26,7 @@ const listsView = new ListsView(model, [
 const compareView = new CompareView(walk);
 
 const both = () => { const { A, B } = walk, of = walk.now(); return [A || of, B || of]; };
-const picturesOf = { order: 'the order of the rotations', lattice: 'the stable matchings', net: 'the net' };
+const picturesOf = { order: 'the order of the rotations', lattice: 'the stable matchings', net: 'the net', tallies: 'the tallies' };
 const exportView = new ExportView({
   check: { label: 'check: the instance and this matching', file: 'both.txt', text: () => data.text + claimText(model, walk.now()),
     what: () => './matchbench check < both.txt says whether it is stable and its regret is as written' },
@@ -95,7 +95,8 @@ function start() {
   const facts = [`${model.kind}: ${model.P.length} proposers`, `${model.R.length} reviewers`, plural(model.k, 'rotation'), count];
   $('facts').textContent = (model.conditions ? [...facts, plural(model.conditions, 'condition')] : facts).join(', ');
   startJumps();
-  const acts = { up: () => walk.up(), down: () => walk.down(), undo: () => walk.undo(), setA: () => walk.keep('A'),
+  const acts = { up: () => orderView.see(walk.up()), down: () => orderView.see(walk.down()), undo: () => walk.undo(),
+    setA: () => walk.keep('A'),
     setB: () => walk.keep('B'), hand: () => walk.setHand(!walk.hand) };
   for (const [id, act] of Object.entries(acts)) $(id).addEventListener('click', act);
   startBar();
@@ -103,8 +104,8 @@ function start() {
     ...Object.fromEntries(model.marks.map((mark, i) => [String(i + 1), pressMark(mark.id)])) });
   if (isLarge) {
     $('onlyMoving').checked = $('onlyStable').checked = true;
-    $('main').classList.add('large');
   } else $('exportBox').open = $('netBox').open = true;
+  if (isLarge || !latticeView.few) $('main').classList.add('large');
   $('agreement').textContent = 'From the lines of rotations it makes closed sets and their matchings, and looks for pairs that block ' +
     `them. ${model.agreement(rows).text}`;
   const sides = { 'proposers propose': () => deferredAcceptance(model, false),

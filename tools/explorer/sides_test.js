@@ -138,8 +138,12 @@ function testExport(tried) {
   tried.want('a table has a row for each', $('text').value.split('\n').length === model.P.length + 2 || /"/.test($('text').value));
   choose('form', 'cursor');
   tried.want('a cursor is the vector', $('text').value === `${shownVector(model)}\n`);
-  choose('form', 'order');
-  tried.want('a picture is one', !model.k || $('text').value.startsWith('<svg '));
+  for (const box of Object.keys(picturesOf)) {
+    choose('form', box);
+    const root = new DOMParser().parseFromString($('text').value, 'image/svg+xml').documentElement;
+    tried.want(`a picture of ${box}`, !$(box).querySelector('svg') || (root.tagName === 'svg'
+      && root.querySelectorAll('svg').length > 0));
+  }
   tried.want('two commands', $('commands').querySelector('pre').textContent.split('\n').length === 2);
   choose('form', 'check');
   if (isLarge) $('exportBox').open = false;

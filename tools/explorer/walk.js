@@ -51,9 +51,16 @@ class Walk {
     this.goTo(to, `Rotation ${i + 1} is ${to[i] ? 'taken' : 'given back'}${others.length ? `, ${text}` : ''}.`);
   }
 
-  down() { for (let i = 0; i < this.model.k && !this.of; i++) if (this.model.isReady(this.set, i)) { this.turn(i); return; } }
+  // Takes the first rotation that is ready, or gives the last one back that can be; its number, or -1.
+  down() { return this.stepTo(this.set.findIndex((_, i) => this.model.isReady(this.set, i))); }
 
-  up() { for (let i = this.model.k - 1; i >= 0 && !this.of; i--) if (this.model.isLast(this.set, i)) { this.turn(i); return; } }
+  up() { return this.stepTo(this.model.members(this.set).reverse().find(i => this.model.isLast(this.set, i))); }
+
+  stepTo(i) {
+    if (this.of || !(i >= 0)) return -1;
+    this.turn(i);
+    return i;
+  }
 
   undo() {
     const was = this.history.pop();

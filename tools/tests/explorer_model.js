@@ -1,7 +1,7 @@
 // node explorer_model.js PAGE : what of a page's script needs no document, on the data of a page. Ends with a line `passed`.
 const fs = require('fs'), path = require('path'), vm = require('vm');
 const folder = path.join(__dirname, '..', 'explorer');
-const files = ['lines.js', 'market.js', 'proposals.js', 'texts.js', 'sides.js', 'layout.js', 'net.js'];
+const files = ['lines.js', 'market.js', 'trace.js', 'texts.js', 'sides.js', 'proposals.js', 'layout.js', 'net.js'];
 const page = fs.readFileSync(process.argv[2], 'utf-8');
 const part = id => page.match(new RegExp(`id="${id}">([^]*?)</script>`))[1];
 const data = JSON.parse(part('data'));

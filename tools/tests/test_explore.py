@@ -173,6 +173,7 @@ class Pages(unittest.TestCase):
             status, page, fault = explore(text)
             self.assertEqual((status, page), (1, ''))
             self.assertIn(what, fault)
+            self.assertEqual('tools/trim' in fault, what == 'TooManySeats')
 
     def test_words(self):
         for words in (['--most', '0'], ['--most', '1001'], ['--most', 'x'], ['--m', '3'], ['a', 'b']):
@@ -227,7 +228,7 @@ class Browser(unittest.TestCase):
 
     def test_commands(self):
         """The two commands that a page shows for a matching make and check it, also where it isn't allowed, and for roommates."""
-        for text, count in ((CONDITIONS, 9), (example('two_by_two'), 2), (example('four_persons'), 2)):
+        for text, count in ((CONDITIONS, 9), (example('hospitals'), 2), (example('in_order'), 4), (example('four_persons'), 2)):
             shown = [it[1:] for it in self.passes(page_of(text)) if it[0] == 'commands']
             self.assertEqual(len(shown), count)
             for commands, table in shown:
