@@ -90,7 +90,9 @@ class Child:
             return line.decode('utf-8', 'replace')
         written, self.written = self.written.decode('utf-8', 'replace'), b''
         status = self.process.wait()
-        if status or is_line:
+        if status == 0 and is_line:
+            raise Broken('crash', 'it ended without an answer', written)
+        if status:
             said = self.said()
             ended = f'signal {-status}' if status < 0 else f'status {status}'
             raise Broken('crash', f'it ended with {ended}' + (f': {said[:200]}' if said else ''), written, common(said) or ended)

@@ -25,7 +25,8 @@ class Kind:
 
     def __init__(self, first):
         self.first, self.numbers = first, []
-        self.least, self.result, self.trials, self.alone = first.case.draft, first.result, 0, True
+        self.least, self.result, self.trials = first.case.draft, first.result, 0
+        self.is_least, self.alone = False, True
 
     @property
     def key(self):
@@ -104,7 +105,7 @@ class Trial:
             kind.result = result
             return True
         budget = min(self.budget, MOST_WAITED) if kind.key[0] == 'timeout' else self.budget
-        kind.least, kind.trials = self.smallest(kind.first.case.draft, fails, budget)
+        kind.least, kind.trials, kind.is_least = self.smallest(kind.first.case.draft, fails, budget)
         kind.alone = self.fails_alone(kind)
 
     def fails_alone(self, kind):
