@@ -47,7 +47,7 @@ class Trial:
         self.shapes = collections.defaultdict(collections.Counter)
         self.kinds = {}
         self.results = []
-        self.stopped = threading.Event()
+        self.stopped, self.gone = threading.Event(), threading.Event()
 
     def result(self, draft):
         """How a solver that is free answers."""
@@ -81,8 +81,11 @@ class Trial:
                     if len(part) < MADE:
                         break
                 list(pool.map(self.shrink, list(self.kinds.values())[:MOST_KINDS]))
-            finally:
+            except BaseException:
+                # The threads are waited for, so they have to come to their end.
                 self.stopped.set()
+                self.gone.set()
+                raise
 
     def add(self, done):
         """Counts a case."""
@@ -99,6 +102,8 @@ class Trial:
     def shrink(self, kind):
         """Finds a least instance that fails in the same way."""
         def fails(draft):
+            if self.gone.is_set():
+                return False
             result = self.result(draft)
             if (result.kind, result.reason) != kind.key:
                 return False
