@@ -11,7 +11,9 @@ BESIDE = os.path.join(os.path.dirname(os.path.dirname(os.path.dirname(os.path.re
 
 @functools.lru_cache(maxsize=None)
 def module():
-    """The module `matchbench`: the one beside the tools, in the repository or where an archive was unpacked, else what Python finds."""
+    """The module `matchbench`: the one beside the tools, in the repository or where an archive was unpacked, else the one that
+    Python finds.
+    """
     beside = [BESIDE] if os.path.isdir(os.path.join(BESIDE, 'matchbench')) else []
     sys.path[:0] = beside
     try:
@@ -19,6 +21,7 @@ def module():
     except ModuleNotFoundError as fault:
         if fault.name != 'matchbench':
             raise
-        raise Fault('the Python module matchbench isn\'t beside the tools and not installed: python/ of the repository has it') from None
+        raise Fault('the Python module matchbench isn\'t beside the tools and not installed; python/ of the repository has it') \
+            from None
     finally:
         del sys.path[:len(beside)]
