@@ -197,6 +197,7 @@ class Protocols(Case):
     def test_rows(self):
         self.assertIsNone(rows_of_table('a,b\nnone\n'))
         self.assertEqual(rows_of_table('a,b\nnone,\n')[1:], [('row 2', 'none', '')])
+        self.assertEqual(rows_of_table('a;b\r\n"x";y\r\n')[1:], [('row 2', 'x', 'y')])
         self.assertEqual(rows_of_table('a,b\n\n x , y,z\nw\n'), [('row 1', 'a', 'b'), ('row 3', 'x', 'y'), ('row 4', 'w', '')])
         self.assertEqual(rows_of_line('{"x":"y","w":null}')[1:], [('pair 1', 'x', 'y'), ('pair 2', 'w', '')])
         self.assertEqual(rows_of_line('[["x","y"],["w",null]]')[1:], [('pair 1', 'x', 'y'), ('pair 2', 'w', '')])

@@ -10,6 +10,7 @@ import tempfile
 import time
 
 from shared.command import Fault
+from shared.table import mark_in
 
 MOST_WRITTEN = 64 << 20
 PIECE = 1 << 16
@@ -193,7 +194,8 @@ class LineSolver:
 def rows_of_table(written):
     """The rows of a table of pairs behind its header row, each with where it stands; None for the one row `none`."""
     try:
-        table = enumerate(csv.reader(written.splitlines(), strict=True), 1)
+        lines = written.splitlines()
+        table = enumerate(csv.reader(lines, delimiter=mark_in(lines), strict=True), 1)
         rows = [(f'row {number}', [it.strip() for it in row]) for number, row in table if any(row)]
     except csv.Error as fault:
         raise ValueError(f'this is no table: {fault}') from None
