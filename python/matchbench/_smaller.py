@@ -6,29 +6,36 @@ from typing import Callable, List, Tuple
 from ._draft import Draft
 
 MOST_TRIALS = 3_000
+# For each so many entries a trial counts once more.
+LARGE = 5_000
+
+
+class Spent(Exception):
+    """No trial is left."""
 
 
 class Shrinker:
-    """A draft that fails, and what is tried on the way to a smaller one."""
+    """A draft that fails, and what is tried on the way to a smaller one. A trial of a large draft counts as several."""
 
     def __init__(self, draft: Draft, fails: Callable[[Draft], bool], trials: int) -> None:
         self.draft, self.fails, self.left = draft, fails, trials
-        self.shrank = False
+        self.shrank, self.count = False, 0
 
     def takes(self, less: Draft) -> bool:
-        """Whether a smaller draft fails too; then it is gone on with."""
+        """Whether a smaller draft fails too; then it is gone on with. Raises Spent."""
         if self.left <= 0:
-            return False
-        self.left -= 1
+            raise Spent
+        self.left -= 1 + less.measure()[1] // LARGE
+        self.count += 1
         if not self.fails(less):
             return False
         self.draft, self.shrank = less, True
         return True
 
     def run(self) -> None:
-        """Goes on until nothing can be left out, or no trial is left."""
+        """Goes on until nothing can be left out. Raises Spent."""
         self.shrank = True
-        while self.shrank and self.left > 0:
+        while self.shrank:
             self.shrank = False
             self.agents(False)
             self.agents(True)
@@ -70,10 +77,11 @@ class Shrinker:
                     self.takes(less)
 
     def places(self) -> None:
-        """Lowers capacities: to 0, to 1, and by 1."""
+        """Lowers capacities: to 1, to a half, to the length of the list, or by 1."""
         for name in self.draft.capacities if self.draft.kind == 'hospitals' else ():
-            for count in sorted({1, max(0, self.draft.capacities[name] - 1)}):
-                if count < self.draft.capacities[name]:
+            now = self.draft.capacities[name]
+            for count in sorted({1, now // 2, len(self.draft.reviewers[name]), now - 1}):
+                if 0 <= count < now:
                     less = self.draft.copy()
                     less.capacities[name] = count
                     if self.takes(less):
@@ -111,8 +119,11 @@ class Shrinker:
                         self.takes(less)
 
 
-def smallest_draft(draft: Draft, fails: Callable[[Draft], bool], trials: int = MOST_TRIALS) -> Tuple[Draft, int]:
-    """`smallest` for a draft, and how many trials it took."""
+def smallest_draft(draft: Draft, fails: Callable[[Draft], bool], trials: int = MOST_TRIALS) -> Tuple[Draft, int, bool]:
+    """`smallest` for a draft, how many trials it took, and whether it came to its end."""
     shrinker = Shrinker(draft, fails, trials)
-    shrinker.run()
-    return shrinker.draft, trials - shrinker.left
+    try:
+        shrinker.run()
+    except Spent:
+        return shrinker.draft, shrinker.count, False
+    return shrinker.draft, shrinker.count, True

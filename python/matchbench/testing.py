@@ -92,13 +92,14 @@ def random(count: int, seed: int = 1, most: int = 8, shapes: Sequence[str] = TWO
 
 
 def smallest(instance: Instance, fails: Callable[[Instance], bool], trials: int = MOST_TRIALS) -> Instance:
-    """A smaller instance that fails too, of which no agent, entry, place, weight or condition alone can be left out.
+    """A smaller instance that fails too, of which no agent, entry, place, weight or condition alone can be left out, unless the
+    trials came to their end.
 
-    `fails` says whether an instance fails. It is called at most as often as `trials` says, and not for the instance itself, which
-    is given back where nothing smaller fails. What it raises is raised. To go on with one kind of failure, let it look for that
-    kind alone. Agents keep their names.
+    `fails` says whether an instance fails. It is called at most as often as `trials` says, more rarely where the instance is large,
+    and not for the instance itself, which is given back where nothing smaller fails. What it raises is raised. To go on with one
+    kind of failure, let it look for that kind alone. Agents keep their names.
     """
-    draft, _ = smallest_draft(Draft.of(instance), lambda it: bool(fails(it.instance())), trials)
+    draft, _, _ = smallest_draft(Draft.of(instance), lambda it: bool(fails(it.instance())), trials)
     return draft.instance()
 
 

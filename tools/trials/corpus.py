@@ -56,7 +56,7 @@ followed by `/` and the number of a seat: a hospital of two places has two seats
 |---|---|
 | `solve side=proposers`, `solve side=reviewers` | the pairs: exactly one matching is right |
 | `solve` of roommates | whether there is a matching. Any vector of `list` is right. Of the parties only the odd ones are the same in all partitions |
-| `list` | all vectors: they are all stable matchings, up to {listed:,}, and a last line `more` if there are others |
+| `list` | all vectors: those of all allowed stable matchings, up to {listed:,}, with a last line `more` if there are others |
 | `pairs` | the pairs, as a set; an `all` line has a pair of all stable matchings |
 | `reduced` | the lists, if your program cuts lists to what lies between the first and the last partner on both sides |
 | `rotations` | the rotations, as sets of pairs. Their order, and needs that follow from others, may differ |

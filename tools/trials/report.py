@@ -42,8 +42,9 @@ class Report:
         """What is told of a kind of failure, in lines."""
         case, result = kind.first.case, kind.result
         times = 'once' if len(kind.numbers) == 1 else f'{len(kind.numbers):,} times'
+        size = 'least' if kind.is_least else 'smaller'
         lines = [f'{result.kind}, {result.reason}: {times}, first in case {case.number} (shape {case.shape}, size {case.size}). '
-                 f'A least instance, after {kind.trials:,} trial{"" if kind.trials == 1 else "s"}:', '']
+                 f'A {size} instance, after {kind.trials:,} trial{"" if kind.trials == 1 else "s"}:', '']
         text = kind.least.text().rstrip('\n').split('\n')
         more = [f'... and {len(text) - MOST_LINES:,} more lines'] if len(text) > MOST_LINES else []
         lines += [f'    {it}' for it in text[:MOST_LINES] + more] + ['']

@@ -10,6 +10,7 @@ import tempfile
 import time
 
 from shared.command import Fault
+from shared.table import mark_in
 
 MOST_WRITTEN = 64 << 20
 PIECE = 1 << 16
@@ -90,7 +91,9 @@ class Child:
             return line.decode('utf-8', 'replace')
         written, self.written = self.written.decode('utf-8', 'replace'), b''
         status = self.process.wait()
-        if status or is_line:
+        if status == 0 and is_line:
+            raise Broken('crash', 'it ended without an answer', written)
+        if status:
             said = self.said()
             ended = f'signal {-status}' if status < 0 else f'status {status}'
             raise Broken('crash', f'it ended with {ended}' + (f': {said[:200]}' if said else ''), written, common(said) or ended)
@@ -191,7 +194,8 @@ class LineSolver:
 def rows_of_table(written):
     """The rows of a table of pairs behind its header row, each with where it stands; None for the one row `none`."""
     try:
-        table = enumerate(csv.reader(written.splitlines(), strict=True), 1)
+        lines = written.splitlines()
+        table = enumerate(csv.reader(lines, delimiter=mark_in(lines), strict=True), 1)
         rows = [(f'row {number}', [it.strip() for it in row]) for number, row in table if any(row)]
     except csv.Error as fault:
         raise ValueError(f'this is no table: {fault}') from None

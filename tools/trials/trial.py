@@ -25,7 +25,8 @@ class Kind:
 
     def __init__(self, first):
         self.first, self.numbers = first, []
-        self.least, self.result, self.trials, self.alone = first.case.draft, first.result, 0, True
+        self.least, self.result, self.trials = first.case.draft, first.result, 0
+        self.is_least, self.alone = False, True
 
     @property
     def key(self):
@@ -46,7 +47,7 @@ class Trial:
         self.shapes = collections.defaultdict(collections.Counter)
         self.kinds = {}
         self.results = []
-        self.stopped = threading.Event()
+        self.stopped, self.gone = threading.Event(), threading.Event()
 
     def result(self, draft):
         """How a solver that is free answers."""
@@ -80,8 +81,11 @@ class Trial:
                     if len(part) < MADE:
                         break
                 list(pool.map(self.shrink, list(self.kinds.values())[:MOST_KINDS]))
-            finally:
+            except BaseException:
+                # The threads are waited for, so they have to come to their end.
                 self.stopped.set()
+                self.gone.set()
+                raise
 
     def add(self, done):
         """Counts a case."""
@@ -98,13 +102,15 @@ class Trial:
     def shrink(self, kind):
         """Finds a least instance that fails in the same way."""
         def fails(draft):
+            if self.gone.is_set():
+                return False
             result = self.result(draft)
             if (result.kind, result.reason) != kind.key:
                 return False
             kind.result = result
             return True
         budget = min(self.budget, MOST_WAITED) if kind.key[0] == 'timeout' else self.budget
-        kind.least, kind.trials = self.smallest(kind.first.case.draft, fails, budget)
+        kind.least, kind.trials, kind.is_least = self.smallest(kind.first.case.draft, fails, budget)
         kind.alone = self.fails_alone(kind)
 
     def fails_alone(self, kind):
