@@ -4,7 +4,7 @@ from __future__ import annotations
 import json
 from typing import Collection, Dict, List, Mapping, Optional, Tuple
 
-from . import Instance, Pair, _front, _Side, _tokens
+from . import Instance, Pair
 
 Rows = Dict[str, List[str]]
 
@@ -45,13 +45,10 @@ class Draft:
             places = {names[1][it]: count for it, count in instance.capacities.items()}
             draft = cls(instance.kind, rows[0], rows[1], places)
         draft.called = sides[0].originals, sides[1].originals
-        for words in map(_tokens, _front(instance.to_text()).split('\n')):
-            if words[:1] == ['weight']:
-                draft.weights[words[1], words[2]] = tuple(map(int, words[3:]))
-            elif words[:1] in (['force'], ['forbid']):
-                (draft.forced if words[0] == 'force' else draft.forbidden).append((words[1], words[2]))
-            elif words[:1] == ['order']:
-                draft.order = words[1:]
+        p, r = names
+        draft.weights = {(p[a], r[b]): numbers for (a, b), numbers in instance.weights.items()}
+        draft.forced, draft.forbidden = ([(p[a], r[b]) for a, b in pairs] for pairs in (instance.forced, instance.forbidden))
+        draft.order = None if instance.compared is None else [p[it] for it in instance.compared]
         return draft
 
     def copy(self) -> Draft:
@@ -92,16 +89,8 @@ class Draft:
 
     def instance(self) -> Instance:
         """The instance, whose agents are called as they were."""
-        others = (self.called[0],) * 2 if self.rooms else self.called
-        both = self.proposers, self.reviewers
-        originals = [{name: called.get(name, name) for name in side} for side, called in zip(both, others)]
-        sides = []
-        for at, word in enumerate(('persons' if self.rooms else 'proposers', 'reviewers')):
-            own, other = originals[at], originals[0 if self.rooms else 1 - at]
-            lists = {own[name]: tuple(other[it] for it in row) for name, row in both[at].items()}
-            places = {own[name]: self.capacities.get(name, 1) for name in both[at]}
-            sides.append(_Side(word, lists, list(both[at]), places))
-        return Instance(self.text(), self.kind, sides[0], sides[0] if self.rooms else sides[1])
+        words = ('persons',) if self.rooms else ('proposers', 'reviewers')
+        return Instance._of_value(json.loads(self.json()), self.text(), dict(zip(words, self.called)))
 
     def measure(self) -> Tuple[int, int, int]:
         """How large it is: its agents, the entries of its lists, and its places."""
