@@ -124,7 +124,7 @@ FAILURES = {
     5: 'reading the instance failed',
     6: 'writing the answer failed',
     8: 'the system refused the words of the command line',
-    70: 'the script couldn\'t build the program',
+    70: 'the script has no program to call',
 }
 
 

@@ -141,18 +141,20 @@ class Shapes(unittest.TestCase):
 
 
 class Drafts(unittest.TestCase):
+    @asks
     def test_text(self):
-        """All that an instance may have, by the names of the text; master lists are written out."""
-        behind = 'weight a x 3 -4\nweight b y 1\nforce a x\nforbid b y\norder b\nend\n'
+        """All that an instance may have, by the names of the text; master lists and orders are written out."""
+        conditions = 'weight a x 3 -4\nweight b y 1\nforce a x\nforbid b y\n'
         front = 'stable 2 hospitals\nmaster n: x y\nmaster m: a b\np a: [n]\np b: y\nr x [2]: [m]\nr y: b # one\n'
-        draft = Draft.of(Instance.from_text(front + behind + 'left a x\n'))
-        self.assertEqual(draft.text(), 'stable 2 hospitals\np a: x y\np b: y\nr x [2]: a b\nr y [1]: b\n' + behind)
+        draft = Draft.of(Instance.from_text(front + conditions + 'order b\nend\n'))
+        self.assertEqual(draft.text(), 'stable 2 hospitals\np a: x y\np b: y\nr x [2]: a b\nr y [1]: b\n' + conditions
+                         + 'order b a\nend\n')
         self.assertEqual(Instance.from_json(draft.json()).to_text(), draft.text())
         less = draft.without(['b'])
-        self.assertEqual(less.text(), 'stable 2 hospitals\np a: x y\nr x [2]: a\nr y [1]:\nweight a x 3 -4\nforce a x\norder\n'
+        self.assertEqual(less.text(), 'stable 2 hospitals\np a: x y\nr x [2]: a\nr y [1]:\nweight a x 3 -4\nforce a x\norder a\n'
                          'end\n')
         self.assertEqual(draft.without(['x'], True).text(),
-                         'stable 2 hospitals\np a: y\np b: y\nr y [1]: b\nweight b y 1\nforbid b y\norder b\nend\n')
+                         'stable 2 hospitals\np a: y\np b: y\nr y [1]: b\nweight b y 1\nforbid b y\norder b a\nend\n')
 
     def test_names(self):
         lists, rows = {'Zoë': ['Дом 5'], 'ann': ['Дом 5', 'x']}, {'Дом 5': ['ann', 'Zoë'], 'x': ['ann']}
