@@ -229,7 +229,7 @@ class Claims(Case):
                 ('solve', 'regret', 'wrong, NotLeast', 'but its regret is'),
                 ('solve', 'weight-ranks', 'wrong, NotLeast', 'but its weight is'),
                 ('solve', 'weight-given', 'wrong, NotLeast', 'and the least is'),
-                ('solve', 'weight-given', 'wrong, NotAllowed', 'the force and forbid lines don\'t allow this matching')):
+                ('solve', 'weight-given', 'wrong, NotAllowed', 'the conditions don\'t allow the matching')):
             shapes = 'conditions,weights,hospitals,opposed' if claim != 'reviewers' else 'opposed'
             status, written = self.own(words, '--claim', claim, '--cases', '60', '--shapes', shapes)
             self.assertEqual(status, 7)
