@@ -7,7 +7,8 @@ function styled(root) {
   const copy = root.cloneNode(true), from = root.querySelectorAll('*'), to = copy.querySelectorAll('*');
   from.forEach((it, i) => {
     const style = getComputedStyle(it);
-    if (/^(path|rect|circle|text)$/.test(it.tagName)) for (const name of STYLES) to[i].style.setProperty(name, style.getPropertyValue(name));
+    if (!/^(path|rect|circle|text)$/.test(it.tagName)) return;
+    for (const name of STYLES) to[i].style.setProperty(name, style.getPropertyValue(name));
   });
   copy.removeAttribute('style');
   return copy;
