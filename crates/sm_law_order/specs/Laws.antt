@@ -1,0 +1,34 @@
+-- The laws of the order of rotations. Each is the contract of a function of `laws`.
+use Rattle.std.specs.Prelude.{◌≡◌, ℕ, ◌<◌, ◌≤◌, ◌↔◌, Bool, List, length}
+use Rattle.sm_market.specs.Lists.{Lists, IsMarket}
+use Rattle.sm_market.specs.Matching.{Places}
+use Rattle.sm_market.specs.Stable.{IsStable}
+use Rattle.sm_theory.specs.Chains.{rotation_at, IsCompleteChain}
+use Rattle.sm_theory.specs.ClosedSets.{IsMember, IsClosed}
+use Rattle.sm_law_order.specs.Order.{Precedes, IsDownSet, IsEliminated}
+
+-- the closure is a partial order, and a rotation that precedes another doesn't stand behind it in the chain
+abbrev pub PrecedesIsOrder : Type 0
+PrecedesIsOrder = (l : Lists) (first : Places) (rotations : List (List (ℕ × ℕ))) → IsMarket l → IsCompleteChain l first rotations
+    → ((i : ℕ) → Precedes l rotations i i)
+    × ((i j k : ℕ) → Precedes l rotations i j → Precedes l rotations j k → Precedes l rotations i k)
+    × ((i j : ℕ) → Precedes l rotations i j → Precedes l rotations j i → i ≡ j)
+    × ((i j : ℕ) → Precedes l rotations i j → i ≤ j)
+
+-- the closed sets are the sets that have with each rotation all that precede it
+abbrev pub ClosedSetsAreDownSets : Type 0
+ClosedSetsAreDownSets = (l : Lists) (rotations : List (List (ℕ × ℕ))) (set : List Bool) → IsClosed l rotations set ↔ IsDownSet l rotations set
+
+-- a rotation of a complete chain precedes another exactly where it is in every closed set that has the other
+-- (Gusfield and Irving 1989, section 2.5)
+abbrev pub PrecedesInClosedSets : Type 0
+PrecedesInClosedSets = (l : Lists) (first : Places) (rotations : List (List (ℕ × ℕ))) (i j : ℕ)
+    → IsMarket l → IsCompleteChain l first rotations → i < length rotations → j < length rotations
+    → Precedes l rotations i j ↔ ((set : List Bool) → IsClosed l rotations set → IsMember set j → IsMember set i)
+
+-- a rotation of a complete chain precedes another exactly where it is eliminated at every stable matching at which the
+-- other is (Gusfield and Irving 1989, section 2.5)
+abbrev pub PrecedesInMatchings : Type 0
+PrecedesInMatchings = (l : Lists) (first : Places) (rotations : List (List (ℕ × ℕ))) (i j : ℕ)
+    → IsMarket l → IsCompleteChain l first rotations → i < length rotations → j < length rotations
+    → Precedes l rotations i j ↔ ((m : Places) → IsStable l m → IsEliminated l m (rotation_at rotations j) → IsEliminated l m (rotation_at rotations i))

@@ -1,0 +1,27 @@
+//! The laws of the order of rotations. Each function does nothing: its contract is the law, for all markets and all complete
+//! chains.
+
+ghost use Rattle.sm_law_order.specs.Laws.{PrecedesIsOrder, ClosedSetsAreDownSets, PrecedesInClosedSets, PrecedesInMatchings};
+
+/// The closure of the two kinds of predecessor is a partial order on the rotations of a complete chain, and what precedes a
+/// rotation doesn't stand behind it.
+pub fn precedes_is_order()
+    ensures { PrecedesIsOrder }
+{}
+
+/// The closed sets of rotations are those that have with each member all that precede it.
+pub fn closed_sets_are_down_sets()
+    ensures { ClosedSetsAreDownSets }
+{}
+
+/// A rotation of a complete chain precedes another exactly where it is in every closed set that has the other
+/// (Gusfield and Irving 1989, section 2.5).
+pub fn precedes_in_closed_sets()
+    ensures { PrecedesInClosedSets }
+{}
+
+/// A rotation of a complete chain precedes another exactly where it is eliminated at every stable matching at which the other is
+/// (Gusfield and Irving 1989, section 2.5).
+pub fn precedes_in_matchings()
+    ensures { PrecedesInMatchings }
+{}
