@@ -3,9 +3,9 @@ use Rattle.std.specs.Prelude.{◌≡◌, ℕ, ◌<◌, ◌≤◌, ◌↔◌, Boo
 use Rattle.sm_market.specs.Lists.{Lists, IsMarket}
 use Rattle.sm_market.specs.Matching.{Places}
 use Rattle.sm_market.specs.Stable.{IsStable}
-use Rattle.sm_theory.specs.Chains.{rotation_at, IsCompleteChain}
-use Rattle.sm_theory.specs.ClosedSets.{IsMember, IsClosed}
-use Rattle.sm_law_order.specs.Order.{Precedes, IsDownSet, IsEliminated}
+use Rattle.sm_theory.specs.Chains.{rotation_at, AreEliminable, IsCompleteChain}
+use Rattle.sm_theory.specs.ClosedSets.{IsMember, IsClosed, IsSameCycle}
+use Rattle.sm_law_order.specs.Order.{Precedes, IsDownSet, IsEliminated, ComesBy}
 
 -- the closure is a partial order, and a rotation that precedes another doesn't stand behind it in the chain
 abbrev pub PrecedesIsOrder : Type 0
@@ -32,3 +32,20 @@ abbrev pub PrecedesInMatchings : Type 0
 PrecedesInMatchings = (l : Lists) (first : Places) (rotations : List (List (ℕ × ℕ))) (i j : ℕ)
     → IsMarket l → IsCompleteChain l first rotations → i < length rotations → j < length rotations
     → Precedes l rotations i j ↔ ((m : Places) → IsStable l m → IsEliminated l m (rotation_at rotations j) → IsEliminated l m (rotation_at rotations i))
+
+-- a rotation of a complete chain precedes another exactly where it has to be eliminated first: in every sequence of
+-- eliminations from the proposers' best that has the other, it comes there or before (Gusfield and Irving 1989, section 3.2)
+abbrev pub PrecedesInSequences : Type 0
+PrecedesInSequences = (l : Lists) (first : Places) (rotations : List (List (ℕ × ℕ))) (i j : ℕ)
+    → IsMarket l → IsCompleteChain l first rotations → i < length rotations → j < length rotations
+    → Precedes l rotations i j
+    ↔ ((sequence : List (List (ℕ × ℕ))) → AreEliminable l first sequence → (b : ℕ) → b < length sequence
+    → IsSameCycle (rotation_at sequence b) (rotation_at rotations j) → ComesBy sequence b (rotation_at rotations i))
+
+-- and it is enough to ask this of the complete chains
+abbrev pub PrecedesInChains : Type 0
+PrecedesInChains = (l : Lists) (first : Places) (rotations : List (List (ℕ × ℕ))) (i j : ℕ)
+    → IsMarket l → IsCompleteChain l first rotations → i < length rotations → j < length rotations
+    → Precedes l rotations i j
+    ↔ ((other : List (List (ℕ × ℕ))) → IsCompleteChain l first other → (b : ℕ) → b < length other
+    → IsSameCycle (rotation_at other b) (rotation_at rotations j) → ComesBy other b (rotation_at rotations i))

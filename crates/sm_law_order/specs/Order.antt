@@ -28,8 +28,8 @@ pub record IsDownSet (l : Lists) (rotations : List (List (ℕ × ℕ))) (set : L
 pub record IsEliminated (l : Lists) (m : Places) (rotation : List (ℕ × ℕ)) : Type 0 where
   pub moved : (i : ℕ) → i < length rotation → let p = proposer_at rotation i in place_of l.proposers p (target_at rotation i) ≤ standing l.proposers m.proposers p
 
--- a rotation comes in others at place b or before it
-pub record ComesBy (others : List (List (ℕ × ℕ))) (b : ℕ) (rotation : List (ℕ × ℕ)) : Type 0 where
+-- in a sequence of rotations the rotation comes at place b or before it
+pub record ComesBy (sequence : List (List (ℕ × ℕ))) (b : ℕ) (rotation : List (ℕ × ℕ)) : Type 0 where
   pub at : ℕ
   pub not_later : at ≤ b
-  pub same : IsSameCycle (rotation_at others at) rotation
+  pub same : IsSameCycle (rotation_at sequence at) rotation

@@ -1,7 +1,7 @@
 //! The laws of the order of rotations. Each function does nothing: its contract is the law, for all markets and all complete
 //! chains.
 
-ghost use Rattle.sm_law_order.specs.Laws.{PrecedesIsOrder, ClosedSetsAreDownSets, PrecedesInClosedSets, PrecedesInMatchings};
+ghost use Rattle.sm_law_order.specs.Laws.{PrecedesIsOrder, ClosedSetsAreDownSets, PrecedesInClosedSets, PrecedesInMatchings, PrecedesInSequences, PrecedesInChains};
 
 /// The closure of the two kinds of predecessor is a partial order on the rotations of a complete chain, and what precedes a
 /// rotation doesn't stand behind it.
@@ -24,4 +24,15 @@ pub fn precedes_in_closed_sets()
 /// (Gusfield and Irving 1989, section 2.5).
 pub fn precedes_in_matchings()
     ensures { PrecedesInMatchings }
+{}
+
+/// A rotation of a complete chain precedes another exactly where it has to be eliminated first: in every sequence of
+/// eliminations from the proposers' best that has the other, it comes before it (Gusfield and Irving 1989, section 3.2).
+pub fn precedes_in_sequences()
+    ensures { PrecedesInSequences }
+{}
+
+/// A rotation of a complete chain precedes another exactly where it comes before it in every complete chain.
+pub fn precedes_in_chains()
+    ensures { PrecedesInChains }
 {}
