@@ -1,12 +1,13 @@
 -- The closure of predecessors, closed sets, and what is eliminated at stable matchings.
-use Rattle.std.proofs.Common.{◌≡◌, ℕ, zero, suc, ◌+◌, ◌<◌, ◌≤◌, inl, inr, arith, refl, sym, ◌∙◌, Bool, true, false, true≢false, List, [], ◌∷◌, ◌++◌, length, map}
+use Rattle.std.proofs.Common.{◌≡◌, ℕ, zero, suc, ◌+◌, ◌<◌, ◌≤◌, inl, inr, arith, refl, sym, ◌∙◌, Bool, true, false, true≢false, List, [], ◌∷◌, ◌++◌, length, map, slice_set}
 use Rattle.std.specs.List.{range_with_len}
+use Rattle.std.proofs.lemmas.List.{get_or-set_same, get_or-set_other, length-set}
 use Rattle.std.proofs.lemmas.List.FromFn.{get_or-map-range_with_len, length-map-range_with_len}
 use Rattle.sm_lists.proofs.Counting.{Decided, Decided-and, Decided-eq, Decided-lt, Decided-some, lt_or_le, eq_or_ne, First}
 use Rattle.sm_market.specs.Lists.{Lists, place_of, IsMarket}
 use Rattle.sm_market.specs.Matching.{Places}
 use Rattle.sm_market.specs.Stable.{IsStable}
-use Rattle.sm_theory.specs.Rotations.{proposer_at, reviewer_at, target_at, next_in}
+use Rattle.sm_theory.specs.Rotations.{IsExposed, proposer_at, reviewer_at, target_at, next_in}
 use Rattle.sm_theory.specs.Chains.{rotation_at, IsCompleteChain, MovesItBefore, MakesItPass, IsNeededBy}
 use Rattle.sm_theory.specs.ClosedSets.{is_member, IsMember, IsClosed, matching_of}
 use Rattle.sm_theory.specs.Net.{IsPath}
@@ -16,16 +17,17 @@ use Rattle.sm_theory.proofs.Net.Tests.{some_first}
 use Rattle.sm_theory.proofs.Bridge.Rotation.{cycle_of}
 use Rattle.sm_theory.proofs.Bridge.Chain.{chain_of, closed_of, Decided-member}
 use Rattle.sm_theory.proofs.Bridge.Sets.{set_is_of}
-use Rattle.sm_theory.proofs.Chains.Rotations.{predecessor_is_earlier, sets_are_matchings}
+use Rattle.sm_theory.proofs.Chains.Rotations.{predecessor_is_earlier, sets_are_matchings, exposed_where_ready}
+use Rattle.sm_theory.proofs.Routes.Shortest.{added_closed, added_one}
 use Rattle.sm_law_order.specs.Order.{IsPredecessor, Precedes, IsEliminated}
-use Rattle.sm_law_order.specs.Laws.{PrecedesIsOrder, ClosedSetsAreDownSets, PrecedesInClosedSets, PrecedesInMatchings}
+use Rattle.sm_law_order.specs.Laws.{PrecedesIsOrder, ClosedSetsAreDownSets, PrecedesInClosedSets, PrecedesInMatchings, PrecedesWhereExposed}
 
 -- one path behind another
 path_over : (Step : ℕ → ℕ → Type 0) (path more : List ℕ) (i j k : ℕ) → IsPath Step i path j → IsPath Step j more k → IsPath Step i (path ++ more) k
 path_over Step [] more i j k w v = rw (sym w) at v
 path_over Step (n ∷ path) more i j k w v = (w.0, path_over Step path more n j k w.1 v)
 
--- two predecessors of each other's are one
+-- what precedes a rotation that precedes another precedes the other
 pub precedes_over : {l : Lists} {rotations : List (List (ℕ × ℕ))} {i j k : ℕ} → Precedes l rotations i j → Precedes l rotations j k → Precedes l rotations i k
 precedes_over {l} {rotations} {i} {j} {k} w v = record { path = w.path ++ v.path; is = path_over (IsPredecessor l rotations) w.path v.path i j k w.is v.is }
 
@@ -254,3 +256,55 @@ precedes_in_matchings l first rotations i j h chain i_in j_in = (there, back)
         let closed = down_closed h chain j in
         down_out h chain i j i_in (eliminated_member h chain closed i i_in
         (all (matching_of l first rotations set) ((sets_are_matchings l first rotations h chain).stable set closed) (member_eliminated h chain set j j_in (down_itself h chain j j_in))))
+
+module _ {l : Lists} (h : IsMarket l) {first : Places} {rotations : List (List (ℕ × ℕ))} (chain : IsCompleteChain l first rotations) where
+  -- the rotations that precede j, but for j itself
+  abbrev before_set : ℕ → List Bool
+  before_set j = slice_set (down_set h chain j) j false
+
+  before_out : (j : ℕ) → j < length rotations → ¬ IsMember (before_set j) j
+  before_out j g member = true≢false (sym member ∙ get_or-set_same (down_set h chain j) j false false (omega (arith, g, (down_closed h chain j).one_each)))
+
+  before_others : (i j : ℕ) → (i ≡ j → ⊥) → is_member (before_set j) i ≡ is_member (down_set h chain j) i
+  before_others i j apart = get_or-set_other (down_set h chain j) j i false false apart
+
+  before_has : (i j k : ℕ) → i < length rotations → k < length rotations → IsMember (down_set h chain j) k → k ≤ j → IsNeededBy l (rotation_at rotations i) (rotation_at rotations k) → IsMember (before_set j) i
+  before_has i j k i_in k_in member less need =
+      before_others i j (λ e. omega (arith, e, predecessor_is_earlier l first rotations i k h chain i_in k_in need))
+      ∙ (down_closed h chain j).closed i k i_in k_in member need
+
+  before_closed : (j : ℕ) → j < length rotations → IsClosed l rotations (before_set j)
+  before_closed j g = record {
+    one_each = length-set (down_set h chain j) j false ∙ (down_closed h chain j).one_each;
+    closed = λ i k i_in k_in member need. elim (eq_or_ne k j) [
+      | inl e ↦ absurd (before_out j g (rw e at member))
+      | inr apart ↦
+          let inside : IsMember (down_set h chain j) k = sym (before_others k j apart) ∙ member in
+          before_has i j k i_in k_in inside (precedes_rises h chain k j (down_out h chain k j k_in inside)) need
+    ];
+  }
+
+  -- at its matching j is exposed
+  before_exposed : (j : ℕ) → j < length rotations → IsExposed l (matching_of l first rotations (before_set j)) (rotation_at rotations j)
+  before_exposed j g = (exposed_where_ready l first rotations (before_set j) j h chain (before_closed j g) g).1 (record {
+    outside = before_out j g;
+    prepared = λ i i_in need. before_has i j j i_in g (down_itself h chain j g) (omega arith) need;
+  })
+
+-- what precedes j is what is eliminated wherever j is exposed
+pub precedes_where_exposed : PrecedesWhereExposed
+precedes_where_exposed l first rotations i j h chain i_in j_in apart = (there, back)
+  where
+    there : Precedes l rotations i j → (m : Places) → IsStable l m → IsExposed l m (rotation_at rotations j) → IsEliminated l m (rotation_at rotations i)
+    there w m hm x =
+        let u = (sets_are_matchings l first rotations h chain).all m hm in
+        let x' : IsExposed l (matching_of l first rotations u.0) (rotation_at rotations j) = rw u.2 x in
+        let ready = (exposed_where_ready l first rotations u.0 j h chain u.1 j_in).0 x' in
+        let one = added_one h chain u.1 j j_in ready in
+        rw u.2 at (member_eliminated h chain u.0 i i_in (one.less i (precedes_inside (added_closed h chain u.1 j j_in ready) i j w one.inside) apart))
+
+    back : ((m : Places) → IsStable l m → IsExposed l m (rotation_at rotations j) → IsEliminated l m (rotation_at rotations i)) → Precedes l rotations i j
+    back all =
+        let closed = before_closed h chain j j_in in
+        let inside = eliminated_member h chain closed i i_in (all (matching_of l first rotations (before_set h chain j)) ((sets_are_matchings l first rotations h chain).stable (before_set h chain j) closed) (before_exposed h chain j j_in)) in
+        down_out h chain i j i_in (sym (before_others h chain i j apart) ∙ inside)

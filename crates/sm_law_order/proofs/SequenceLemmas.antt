@@ -25,7 +25,7 @@ use Rattle.sm_theory.proofs.Routes.OneMore.{same_elim, IsOneMore, one_more_expos
 use Rattle.sm_theory.proofs.Routes.Sets.{front_of, front_long, front_all, front_others, front_new, front_same, front_second, front_into}
 use Rattle.sm_theory.proofs.Routes.Shortest.{added_closed, added_one, front_closed}
 use Rattle.sm_law_order.specs.Order.{Precedes, ComesBy}
-use Rattle.sm_law_order.specs.Laws.{PrecedesInSequences, PrecedesInChains}
+use Rattle.sm_law_order.specs.Laws.{PrecedesInSequences, PrecedesInChains, OneOrder}
 use Rattle.sm_law_order.proofs.OrderLemmas.{precedes_inside, down_set, down_closed, down_itself, down_out}
 
 pair_equal : (x y : ℕ × ℕ) → x.0 ≡ y.0 → x.1 ≡ y.1 → x ≡ y
@@ -312,3 +312,20 @@ precedes_in_chains l first rotations i j h chain i_in j_in = (
   (λ w other complete b g same. comes_by h chain i j i_in j_in w other (eliminable_of complete) b g same),
   (λ always. precedes_by_chains h chain i j i_in j_in always),
 )
+
+-- being the same cycle goes on from one to the next
+same_over : {x y z : List (ℕ × ℕ)} → IsSameCycle x y → IsSameCycle y z → IsSameCycle x z
+same_over a b = record {
+  there = λ i less. let u = a.there i less in let v = b.there u.0 u.1 in (v.0, v.1, v.2 ∙ u.2);
+  back = λ i less. let u = b.back i less in let v = a.back u.0 u.1 in (v.0, v.1, v.2 ∙ u.2);
+}
+
+-- and goes back
+same_back : {x y : List (ℕ × ℕ)} → IsSameCycle x y → IsSameCycle y x
+same_back a = record { there = a.back; back = a.there }
+
+-- whichever complete chain is looked at, the order is one
+pub one_order : OneOrder
+one_order l first rotations other i j i' j' h chain chain' i_in j_in i_in' j_in' same_i same_j w = (precedes_in_chains l first other i' j' h chain' i_in' j_in').1 (λ third complete b g same.
+    let u = (precedes_in_chains l first rotations i j h chain i_in j_in).0 w third complete b g (same_over same (same_back same_j)) in
+    record { at = u.at; not_later = u.not_later; same = same_over u.same same_i })

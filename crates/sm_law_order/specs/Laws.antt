@@ -1,8 +1,9 @@
 -- The laws of the order of rotations. Each is the contract of a function of `laws`.
-use Rattle.std.specs.Prelude.{◌≡◌, ℕ, ◌<◌, ◌≤◌, ◌↔◌, Bool, List, length}
+use Rattle.std.specs.Prelude.{◌≡◌, ◌≢◌, ℕ, ◌<◌, ◌≤◌, ◌↔◌, Bool, List, length}
 use Rattle.sm_market.specs.Lists.{Lists, IsMarket}
 use Rattle.sm_market.specs.Matching.{Places}
 use Rattle.sm_market.specs.Stable.{IsStable}
+use Rattle.sm_theory.specs.Rotations.{IsExposed}
 use Rattle.sm_theory.specs.Chains.{rotation_at, AreEliminable, IsCompleteChain}
 use Rattle.sm_theory.specs.ClosedSets.{IsMember, IsClosed, IsSameCycle}
 use Rattle.sm_law_order.specs.Order.{Precedes, IsDownSet, IsEliminated, ComesBy}
@@ -33,8 +34,15 @@ PrecedesInMatchings = (l : Lists) (first : Places) (rotations : List (List (ℕ 
     → IsMarket l → IsCompleteChain l first rotations → i < length rotations → j < length rotations
     → Precedes l rotations i j ↔ ((m : Places) → IsStable l m → IsEliminated l m (rotation_at rotations j) → IsEliminated l m (rotation_at rotations i))
 
+-- and precedes another than itself exactly where it is eliminated at every stable matching at which the other is exposed
+-- (Gusfield and Irving 1989, section 2.5)
+abbrev pub PrecedesWhereExposed : Type 0
+PrecedesWhereExposed = (l : Lists) (first : Places) (rotations : List (List (ℕ × ℕ))) (i j : ℕ)
+    → IsMarket l → IsCompleteChain l first rotations → i < length rotations → j < length rotations → i ≢ j
+    → Precedes l rotations i j ↔ ((m : Places) → IsStable l m → IsExposed l m (rotation_at rotations j) → IsEliminated l m (rotation_at rotations i))
+
 -- a rotation of a complete chain precedes another exactly where it has to be eliminated first: in every sequence of
--- eliminations from the proposers' best that has the other, it comes there or before (Gusfield and Irving 1989, section 3.2)
+-- eliminations from the proposers' best that has the other, it comes there or before (Gusfield and Irving 1989, section 2.5)
 abbrev pub PrecedesInSequences : Type 0
 PrecedesInSequences = (l : Lists) (first : Places) (rotations : List (List (ℕ × ℕ))) (i j : ℕ)
     → IsMarket l → IsCompleteChain l first rotations → i < length rotations → j < length rotations
@@ -49,3 +57,11 @@ PrecedesInChains = (l : Lists) (first : Places) (rotations : List (List (ℕ × 
     → Precedes l rotations i j
     ↔ ((other : List (List (ℕ × ℕ))) → IsCompleteChain l first other → (b : ℕ) → b < length other
     → IsSameCycle (rotation_at other b) (rotation_at rotations j) → ComesBy other b (rotation_at rotations i))
+
+-- so the order is the market's own: another complete chain gives the same one
+abbrev pub OneOrder : Type 0
+OneOrder = (l : Lists) (first : Places) (rotations other : List (List (ℕ × ℕ))) (i j i' j' : ℕ)
+    → IsMarket l → IsCompleteChain l first rotations → IsCompleteChain l first other
+    → i < length rotations → j < length rotations → i' < length other → j' < length other
+    → IsSameCycle (rotation_at rotations i) (rotation_at other i') → IsSameCycle (rotation_at rotations j) (rotation_at other j')
+    → Precedes l rotations i j → Precedes l other i' j'

@@ -1,7 +1,7 @@
 //! The laws of the order of rotations. Each function does nothing: its contract is the law, for all markets and all complete
 //! chains.
 
-ghost use Rattle.sm_law_order.specs.Laws.{PrecedesIsOrder, ClosedSetsAreDownSets, PrecedesInClosedSets, PrecedesInMatchings, PrecedesInSequences, PrecedesInChains};
+ghost use Rattle.sm_law_order.specs.Laws.{PrecedesIsOrder, ClosedSetsAreDownSets, PrecedesInClosedSets, PrecedesInMatchings, PrecedesWhereExposed, PrecedesInSequences, PrecedesInChains, OneOrder};
 
 /// The closure of the two kinds of predecessor is a partial order on the rotations of a complete chain, and what precedes a
 /// rotation doesn't stand behind it.
@@ -26,8 +26,14 @@ pub fn precedes_in_matchings()
     ensures { PrecedesInMatchings }
 {}
 
+/// A rotation of a complete chain precedes another than itself exactly where it is eliminated at every stable matching at which the
+/// other is exposed (Gusfield and Irving 1989, section 2.5).
+pub fn precedes_where_exposed()
+    ensures { PrecedesWhereExposed }
+{}
+
 /// A rotation of a complete chain precedes another exactly where it has to be eliminated first: in every sequence of
-/// eliminations from the proposers' best that has the other, it comes before it (Gusfield and Irving 1989, section 3.2).
+/// eliminations from the proposers' best that has the other, it comes before it (Gusfield and Irving 1989, section 2.5).
 pub fn precedes_in_sequences()
     ensures { PrecedesInSequences }
 {}
@@ -35,4 +41,9 @@ pub fn precedes_in_sequences()
 /// A rotation of a complete chain precedes another exactly where it comes before it in every complete chain.
 pub fn precedes_in_chains()
     ensures { PrecedesInChains }
+{}
+
+/// The order is the market's own: two complete chains of one market order their rotations alike.
+pub fn one_order()
+    ensures { OneOrder }
 {}
