@@ -20,7 +20,7 @@ use Rattle.sm_theory.proofs.Core.Correspondence.{InChain, all_in_chain}
 use Rattle.sm_theory.proofs.Bridge.Rotation.{cycle_of, exposed_of, exposed_back, elim_of, eliminated_stable}
 use Rattle.sm_theory.proofs.Bridge.Chain.{chain_of, eliminable_of, rotation_at-push_before, rotation_at-push_new, stage_before}
 use Rattle.sm_theory.proofs.Bridge.Sets.{set_is_of, set_stable}
-use Rattle.sm_theory.proofs.Chains.Rotations.{exposed_where_ready}
+use Rattle.sm_theory.proofs.Chains.Rotations.{exposed_where_ready, best_is_unique}
 use Rattle.sm_theory.proofs.Routes.OneMore.{same_elim, IsOneMore, one_more_exposed, one_more_next}
 use Rattle.sm_theory.proofs.Routes.Sets.{front_of, front_long, front_all, front_others, front_new, front_same, front_second, front_into}
 use Rattle.sm_theory.proofs.Routes.Shortest.{added_closed, added_one, front_closed}
@@ -324,8 +324,20 @@ same_over a b = record {
 same_back : {x y : List (ℕ × ℕ)} → IsSameCycle x y → IsSameCycle y x
 same_back a = record { there = a.back; back = a.there }
 
--- whichever complete chain is looked at, the order is one
+module _ {l : Lists} (h : IsMarket l) {first : Places} {rotations rotations' : List (List (ℕ × ℕ))} (chain : IsCompleteChain l first rotations) (chain' : IsCompleteChain l first rotations') where
+  -- what precedes a rotation in one chain precedes it in another
+  precedes_alike : (i j i' j' : ℕ) → i < length rotations → j < length rotations → i' < length rotations' → j' < length rotations'
+      → IsSameCycle (rotation_at rotations i) (rotation_at rotations' i') → IsSameCycle (rotation_at rotations j) (rotation_at rotations' j')
+      → Precedes l rotations i j → Precedes l rotations' i' j'
+  precedes_alike i j i' j' i_in j_in i_in' j_in' same_i same_j w = precedes_by_chains h chain' i' j' i_in' j_in' (λ other complete b g same.
+      let u = comes_by h chain i j i_in j_in w other (eliminable_of complete) b g (same_over same (same_back same_j)) in
+      record { at = u.at; not_later = u.not_later; same = same_over u.same same_i })
+
+-- all complete chains give one order
 pub one_order : OneOrder
-one_order l first rotations other i j i' j' h chain chain' i_in j_in i_in' j_in' same_i same_j w = (precedes_in_chains l first other i' j' h chain' i_in' j_in').1 (λ third complete b g same.
-    let u = (precedes_in_chains l first rotations i j h chain i_in j_in).0 w third complete b g (same_over same (same_back same_j)) in
-    record { at = u.at; not_later = u.not_later; same = same_over u.same same_i })
+one_order l first first' rotations rotations' i j i' j' h chain chain' i_in j_in i_in' j_in' same_i same_j =
+    let e : first' ≡ first = (best_is_unique l first' first h).0 chain'.from_best chain.from_best in
+    let chain_there : IsCompleteChain l first rotations' = rw e at chain' in (
+      precedes_alike h chain chain_there i j i' j' i_in j_in i_in' j_in' same_i same_j,
+      precedes_alike h chain_there chain i' j' i j i_in' j_in' i_in j_in (same_back same_i) (same_back same_j),
+    )

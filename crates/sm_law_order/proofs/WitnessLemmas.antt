@@ -7,10 +7,10 @@ use Rattle.sm_theory.specs.Net.{IsPath}
 use Rattle.sm_theory.specs.WitnessesListing.{two_pairs, two_pairs_chain}
 use Rattle.sm_theory.proofs.Chains.Rotations.{printed_of}
 use Rattle.sm_theory.proofs.Tests.Pairs.{market_pass, matching_pass, firsts_best, exposed_pass, none_pass}
-use Rattle.sm_theory.proofs.Tests.Markets.{below_two}
+use Rattle.sm_theory.proofs.Tests.Markets.{below_two, passed_seat_is}
 use Rattle.sm_theory.proofs.Vectors.Witness.{none_needed}
 use Rattle.sm_law_order.specs.Order.{IsPredecessor}
-use Rattle.sm_law_order.specs.Witnesses.{in_a_row, in_a_row_first, in_a_row_chain, InARow, Apart}
+use Rattle.sm_law_order.specs.Witnesses.{in_a_row, in_a_row_first, in_a_row_chain, InARow, OverASeat, Apart}
 
 -- a number below 3
 below_three : (P : ℕ → Type 0) → P 0 → P 1 → P 2 → (i : ℕ) → i < 3 → P i
@@ -74,6 +74,10 @@ in_a_row_is = (
   (λ w. not_needed w.needed),
   record { path = 1 ∷ 2 ∷ []; is = (first_needed, (second_needed, refl)) },
 )
+
+-- what is said of the market with a reviewer that is passed holds
+pub over_a_seat_is : OverASeat
+over_a_seat_is = (record { path = 1 ∷ []; is = (record { early_in = omega arith; late_in = omega arith; needed = inr passed_seat_is.2 }, refl) }, passed_seat_is.3)
 
 -- a path between different rotations has a first step
 no_path : (i j : ℕ) → (i ≡ j → ⊥) → (path : List ℕ) → IsPath (IsPredecessor two_pairs two_pairs_chain) i path j → ⊥

@@ -58,10 +58,10 @@ PrecedesInChains = (l : Lists) (first : Places) (rotations : List (List (ℕ × 
     ↔ ((other : List (List (ℕ × ℕ))) → IsCompleteChain l first other → (b : ℕ) → b < length other
     → IsSameCycle (rotation_at other b) (rotation_at rotations j) → ComesBy other b (rotation_at rotations i))
 
--- so the order is the market's own: another complete chain gives the same one
+-- so the order is the market's own: all its complete chains give one
 abbrev pub OneOrder : Type 0
-OneOrder = (l : Lists) (first : Places) (rotations other : List (List (ℕ × ℕ))) (i j i' j' : ℕ)
-    → IsMarket l → IsCompleteChain l first rotations → IsCompleteChain l first other
-    → i < length rotations → j < length rotations → i' < length other → j' < length other
-    → IsSameCycle (rotation_at rotations i) (rotation_at other i') → IsSameCycle (rotation_at rotations j) (rotation_at other j')
-    → Precedes l rotations i j → Precedes l other i' j'
+OneOrder = (l : Lists) (first first' : Places) (rotations rotations' : List (List (ℕ × ℕ))) (i j i' j' : ℕ)
+    → IsMarket l → IsCompleteChain l first rotations → IsCompleteChain l first' rotations'
+    → i < length rotations → j < length rotations → i' < length rotations' → j' < length rotations'
+    → IsSameCycle (rotation_at rotations i) (rotation_at rotations' i') → IsSameCycle (rotation_at rotations j) (rotation_at rotations' j')
+    → Precedes l rotations i j ↔ Precedes l rotations' i' j'

@@ -1,8 +1,10 @@
--- A market with a rotation that precedes another by two steps alone, and one whose two rotations don't precede each other.
+-- A market with a rotation that precedes another by two steps alone, one with a predecessor of the second kind alone, and one
+-- whose two rotations don't precede each other.
 use Rattle.std.specs.Prelude.{ℕ, List, [], ◌∷◌, Some}
 use Rattle.sm_market.specs.Lists.{Lists, IsMarket}
 use Rattle.sm_market.specs.Matching.{Places}
-use Rattle.sm_theory.specs.Chains.{IsPrintedChain}
+use Rattle.sm_theory.specs.Chains.{rotation_at, IsPrintedChain, MovesItBefore}
+use Rattle.sm_theory.specs.Witnesses.{passed_seat, passed_seat_chain}
 use Rattle.sm_theory.specs.WitnessesListing.{two_pairs, two_pairs_chain}
 use Rattle.sm_law_order.specs.Order.{IsPredecessor, Precedes}
 
@@ -28,6 +30,10 @@ InARow = IsMarket in_a_row × IsPrintedChain in_a_row in_a_row_first in_a_row_ch
     × IsPredecessor in_a_row in_a_row_chain 0 1 × IsPredecessor in_a_row in_a_row_chain 1 2
     × (¬ IsPredecessor in_a_row in_a_row_chain 0 2)
     × Precedes in_a_row in_a_row_chain 0 2
+
+-- a rotation precedes another of which it is a predecessor of the second kind alone
+abbrev pub OverASeat : Type 0
+OverASeat = Precedes passed_seat passed_seat_chain 0 1 × (¬ MovesItBefore (rotation_at passed_seat_chain 0) (rotation_at passed_seat_chain 1))
 
 -- of two rotations that don't need each other neither precedes the other
 abbrev pub Apart : Type 0

@@ -33,17 +33,17 @@ pub fn precedes_where_exposed()
 {}
 
 /// A rotation of a complete chain precedes another exactly where it has to be eliminated first: in every sequence of
-/// eliminations from the proposers' best that has the other, it comes before it (Gusfield and Irving 1989, section 2.5).
+/// eliminations from the proposers' best that has the other, it comes there or before (Gusfield and Irving 1989, section 2.5).
 pub fn precedes_in_sequences()
     ensures { PrecedesInSequences }
 {}
 
-/// A rotation of a complete chain precedes another exactly where it comes before it in every complete chain.
+/// A rotation of a complete chain precedes another exactly where it comes at the other's turn or before in every complete chain.
 pub fn precedes_in_chains()
     ensures { PrecedesInChains }
 {}
 
-/// The order is the market's own: two complete chains of one market order their rotations alike.
+/// The order is the market's own: all its complete chains give one.
 pub fn one_order()
     ensures { OneOrder }
 {}
