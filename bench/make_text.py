@@ -8,6 +8,7 @@
     python3 bench/make_text.py cycles SIZE..
     python3 bench/make_text.py copies SIZE
     python3 bench/make_text.py opposed BLOCKS SIZE
+    python3 bench/make_text.py late CHAIN FREE
     python3 bench/make_text.py roommates PERSONS [SEED]
     python3 bench/make_text.py turning SIZE
     python3 bench/make_text.py doubled SIZE
@@ -23,7 +24,7 @@ The others are marriages with many rotations. In `cycle` the proposer p(i) lists
 the reviewer r(k) lists p(k+1), p(k+2) and so on around: each turn is one rotation of all proposers. `cycles` has a cycle of each SIZE,
 side by side. `copies` has SIZE
 copies of the two by two instance with two stable matchings. `opposed` has BLOCKS cycles of SIZE agents, with the
-proposers' and the reviewers' numbers mixed.
+proposers' and the reviewers' numbers mixed. `late` has a chain of rotations of which each needs the one below it in the text.
 
 Four kinds are roommates: `roommates` has complete lists in random order. `turning` has the persons of a cycle, of SIZE on each
 side. `doubled` has as many with very many stable matchings (Irving and Leather 1986); SIZE is a power of two. `fours` has
@@ -100,6 +101,21 @@ def opposed(blocks, size, seed=1):
     return marriage(proposers, reviewers)
 
 
+def late(chain, free):
+    """A chain of rotations of which each needs the one that stands below it in the text, and the last one moves the first proposers;
+    between them and the chain stand `free` rotations that need no other.
+    """
+    count = 2 * (1 + free + chain)
+    proposers = [[i, i ^ 1] for i in range(count)]
+    reviewers = [[i ^ 1, i] for i in range(count)]
+    passed = 0
+    for first in range(count - 2, 2 * free, -2):
+        proposers[first].insert(1, passed)
+        reviewers[passed].insert(1, first)
+        passed = first
+    return marriage(proposers, reviewers)
+
+
 def persons(rows):
     return ["stable 1 roommates"] + ["p x%d: %s" % (x, " ".join("x%d" % y for y in row)) for x, row in enumerate(rows)] + ["end"]
 
@@ -155,6 +171,8 @@ def main(words):
         return cycle(int(words[1]))
     if words[:1] == ["cycles"] and len(words) > 1:
         return cycles(*map(int, words[1:]))
+    if words[:1] == ["late"] and len(words) == 3:
+        return late(int(words[1]), int(words[2]))
     if words[:1] == ["copies"] and len(words) == 2:
         return copies(int(words[1]))
     if words[:1] == ["opposed"] and len(words) == 3:

@@ -7,6 +7,7 @@ function styled(root) {
   const copy = root.cloneNode(true), from = root.querySelectorAll('*'), to = copy.querySelectorAll('*');
   from.forEach((it, i) => {
     const style = getComputedStyle(it);
+    if (!/^(path|rect|circle|text)$/.test(it.tagName)) return;
     for (const name of STYLES) to[i].style.setProperty(name, style.getPropertyValue(name));
   });
   copy.removeAttribute('style');
@@ -15,7 +16,10 @@ function styled(root) {
 
 // The pictures of a box as one text, side by side; '' where it has none.
 function pictureText(box) {
+  // What is on its way to another colour is taken as it will be.
+  document.documentElement.classList.add('still');
   const all = [...$(box).querySelectorAll('svg')].map(styled), size = (it, name) => +it.getAttribute(name);
+  document.documentElement.classList.remove('still');
   if (!all.length) return '';
   let width = 0;
   for (const it of all) { it.setAttribute('x', width); width += size(it, 'width'); }

@@ -10,5 +10,7 @@ pub mod NameLemmas
 pub mod InputLemmas
 pub mod BackLemmas
 pub mod ReprintLemmas
+pub mod ExportLemmas
+pub mod ValueLemmas
 pub mod JsonLemmas
 pub mod WitnessLemmas

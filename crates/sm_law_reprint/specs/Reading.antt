@@ -1,5 +1,6 @@
 -- What the text of a printed instance means.
 use Rattle.std.specs.Prelude.{◌≡◌, ℕ, ◌≤◌, List, length, map, Some, Ok}
+use Rattle.serde_json.specs.Written.{compact_text}
 use Rattle.sm_text.specs.Limits.{most_bytes}
 use Rattle.sm_agents.specs.Written.{AgentData}
 use Rattle.sm_instance.specs.Inputs.{IsInput}
@@ -9,6 +10,7 @@ use Rattle.sm_reader.specs.InstanceText.{ReadText, instance_text}
 use Rattle.sm_answer.specs.Writing.{text_of}
 use Rattle.sm_instance_lines.specs.Printed.{lines_of}
 use Rattle.sm_json.specs.JsonText.{text_in}
+use Rattle.sm_json.specs.Making.{json_of}
 
 -- an instance whose agents stand on no line
 abbrev pub unlined : AgentData → AgentData
@@ -47,8 +49,6 @@ pub record IsReadFromJson (bytes : List ℕ) (input : Input) : Type 0 where
   pub whole : read.rest ≡ length text
   pub same : SameButForLines read.input input
 
--- and so do all bytes that stand for the text of a printed instance, as its JSON does
+-- and so does the JSON text of each instance whose text has no more bytes than an input may have
 abbrev pub JsonIsRead : Type 0
-JsonIsRead =
-    (input : Input) (bytes : List ℕ) → IsInput input → length (printed_text input) ≤ most_bytes → text_in bytes ≡ Some (printed_text input)
-    → IsReadFromJson bytes input
+JsonIsRead = (input : Input) → IsInput input → length (printed_text input) ≤ most_bytes → IsReadFromJson (compact_text (json_of input)) input

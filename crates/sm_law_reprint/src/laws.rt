@@ -9,8 +9,8 @@ pub fn printed_is_read()
     ensures { PrintedIsRead }
 {}
 
-/// An instance in JSON and its text give equal instances: bytes that stand for the text of a printed instance, as those of
-/// [`sm_json::to_json`] do, give a text that means this instance. The two differ in the numbers of lines alone.
+/// An instance in JSON is read back: its JSON text, which [`sm_json::to_json`] writes, stands for a text that means this instance,
+/// where that text isn't too long for an input. The two instances differ in the numbers of lines alone.
 pub fn json_is_read()
     ensures { JsonIsRead }
 {}

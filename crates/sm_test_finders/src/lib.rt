@@ -21,3 +21,5 @@ mod rooms;
 mod seats;
 #[cfg(test)]
 mod solutions;
+#[cfg(test)]
+mod trims;

@@ -50,7 +50,17 @@ pub fn run_once(
     let input = Vec::from_slice(alloc, input)?;
     let mut source = MemSource::new(input, piece.max(1), reads);
     let mut sink = MemSink::new(alloc, ROOM, writes)?;
-    let status = run(alloc, &words, &mut source, &mut sink, tallies(alloc)?).number();
+    // A tally of each tag in rising order, as the program has them.
+    let mut tallies: Vec<Box<dyn Tally>> = Vec::new(alloc);
+    let count = Box::new(alloc, CountTally::new())?;
+    tallies.push(count)?;
+    let sum = Box::new(alloc, SumTally::new())?;
+    tallies.push(sum)?;
+    let regret = Box::new(alloc, RegretTally::new())?;
+    tallies.push(regret)?;
+    let profile = Box::new(alloc, ProfileTally::new())?;
+    tallies.push(profile)?;
+    let status = run(alloc, &words, &mut source, &mut sink, tallies).number();
     Ok(Ran {
         status,
         written: Vec::from_slice(alloc, sink.held())?,
@@ -66,18 +76,4 @@ fn words_in(alloc: Global, text: &str) -> Result<Vec<String>, AllocError> {
         words.push(String::from_str(alloc, word)?)?;
     }
     Ok(words)
-}
-
-/// A tally of each tag in rising order, as the program has them.
-fn tallies(alloc: Global) -> Result<Vec<Box<dyn Tally>>, AllocError> {
-    let mut tallies: Vec<Box<dyn Tally>> = Vec::new(alloc);
-    let count = Box::new(alloc, CountTally::new())?;
-    tallies.push(count)?;
-    let sum = Box::new(alloc, SumTally::new())?;
-    tallies.push(sum)?;
-    let regret = Box::new(alloc, RegretTally::new())?;
-    tallies.push(regret)?;
-    let profile = Box::new(alloc, ProfileTally::new())?;
-    tallies.push(profile)?;
-    Ok(tallies)
 }

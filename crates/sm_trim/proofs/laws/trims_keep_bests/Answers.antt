@@ -1,0 +1,5 @@
+use Rattle.sm_trim.proofs.AnswerLaws.{trims_keep_bests}
+use Rattle.sm_trim.proofs.laws.trims_keep_bests.Goals as goal
+
+pub returns : goal.returns
+returns c = trims_keep_bests
