@@ -26,7 +26,8 @@ function start() {
   const sides = { 'proposers propose': () => deferredAcceptance(model, false),
     'reviewers propose': () => deferredAcceptance(model, true) };
   $('acceptance').open = true;
-  new StepsView('steps', sides, word => `Nobody has anybody left to propose to: these are the ${word.split(' ')[0]}’ best partners.`);
+  new StepsView('steps', sides, word =>
+    `Nobody has anybody left to propose to: these are the ${word.split(' ')[0]}’ best partners.`);
   listsView.show(nobody, [], false);
   if (location.hash.startsWith('#test')) testPage();
 }

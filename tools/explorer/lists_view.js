@@ -1,7 +1,8 @@
 // The lists: the partner, the others of stable matchings, and the rest; by hand their entries are buttons.
 class ListsView {
-  // `sides` has for each table its id, the lists, the names of its agents and of those on their lists, the ranks, and what turns an
-  // agent and an entry into a pair, and `most` where no more entries of a list are shown; `stable` says whether a pair is in some stable matching, or is null where that isn't known.
+  // `sides` has for each table its id, the lists, the names of its agents and of those on their lists, the ranks, what turns an
+  // agent and an entry into a pair, and `most` where no more entries of a list are shown; `stable` says whether a pair is in some
+  // stable matching, or is null where that isn't known.
   constructor(model, sides, stable, onHand) {
     Object.assign(this, { model, sides, stable, onHand, built: sides.map(() => new Map()), rows: sides.map(() => []) });
     this.movable = sides.map(side => side.lists.map((list, own) => !stable

@@ -107,8 +107,8 @@ function start() {
     $('onlyMoving').checked = $('onlyStable').checked = true;
   } else $('exportBox').open = $('netBox').open = true;
   if (isLarge || !latticeView.few) $('main').classList.add('large');
-  $('agreement').textContent = 'From the lines of rotations it makes closed sets and their matchings, and looks for pairs that block ' +
-    `them. ${model.agreement(rows).text}`;
+  $('agreement').textContent = 'From the lines of rotations it makes closed sets and their matchings, and looks for pairs that ' +
+    `block them. ${model.agreement(rows).text}`;
   const sides = { 'proposers propose': () => deferredAcceptance(model, false),
     'reviewers propose': () => deferredAcceptance(model, true) };
   whenOpened('acceptance', () => {

@@ -50,7 +50,8 @@ class StepsView {
   // The entries of a row as boxes; of a long list their numbers, and those that the step touches.
   entries(trace, step, row, struck, held, fresh) {
     const list = trace.lists[row], isNow = other => step && step.row === row && step.other === other;
-    const key = other => `${row} ${other}`, count = set => list.filter(other => set.has(key(other))).length, isLong = list.length > 60;
+    const key = other => `${row} ${other}`, isLong = list.length > 60;
+    const count = set => list.filter(other => set.has(key(other))).length;
     const boxes = list.filter(other => !isLong || isNow(other) || fresh.has(key(other))).map(other => {
       const isHeld = held.has(key(other)), isStruck = struck.has(key(other));
       const words = ['chip', isStruck ? 'struck' : isHeld ? 'now' : 'stable', fresh.has(key(other)) ? 'fresh' : '',
