@@ -1,7 +1,8 @@
 // The lists: the partner, the others of stable matchings, and the rest; by hand their entries are buttons.
 class ListsView {
-  // `sides` has for each table its id, the lists, the names of its agents and of those on their lists, the ranks, and what turns an
-  // agent and an entry into a pair; `stable` says whether a pair is in some stable matching, or is null where that isn't known.
+  // `sides` has for each table its id, the lists, the names of its agents and of those on their lists, the ranks, what turns an
+  // agent and an entry into a pair, and `most` where no more entries of a list are shown; `stable` says whether a pair is in some
+  // stable matching, or is null where that isn't known.
   constructor(model, sides, stable, onHand) {
     Object.assign(this, { model, sides, stable, onHand, built: sides.map(() => new Map()), rows: sides.map(() => []) });
     this.movable = sides.map(side => side.lists.map((list, own) => !stable
@@ -40,7 +41,8 @@ class ListsView {
   // A row; it stays as it is where nothing on it changed.
   row(n, side, own, of, blocks, hand, only) {
     const { model, stable } = this, pairs = side.lists[own].map(it => side.pair(own, it));
-    const list = side.lists[own].filter((_, i) => !only || stable(...pairs[i]) || of[pairs[i][0]] === pairs[i][1]);
+    const all = side.lists[own].filter((_, i) => !only || stable(...pairs[i]) || of[pairs[i][0]] === pairs[i][1]);
+    const list = all.slice(0, side.most), more = all.length - list.length;
     const isBlocking = (p, r) => blocks.has(`${p} ${r}`) || (side.same && blocks.has(`${r} ${p}`));
     // For each entry 1 where it is the partner, and 2 where the pair blocks.
     const states = list.map(it => {
@@ -61,6 +63,7 @@ class ListsView {
         name)
         : el('span', values, name);
     });
+    if (more) chips.push(`and ${more} more`);
     const row = el('tr', { 'data-own': own }, el('th', { scope: 'row' }, side.names[own] + (side.places ? side.places(own) : '')),
       el('td', {}, el('div', { class: 'chips' }, ...chips)));
     this.built[n].set(own, { text, row });

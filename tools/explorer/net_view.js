@@ -64,7 +64,7 @@ class NetView {
     const layers = [...model.layer.map(it => deep - it + 1), 0, deep + 2], lay = edges.map(edge => edge.split(' ').map(number));
     const down = lay.map(([a, b]) => layers[a] < layers[b] ? [a, b] : [b, a]).map(([a, b]) => [a, b]);
     const flat = lay.map(([a, b]) => layers[a] === layers[b]);
-    const it = laidOut(layers, down.filter((_, i) => !flat[i]), node => node >= k ? [30, 30] : [104, 40], { gap: 26, between: 46 });
+    const it = laidOut(layers, down.filter((_, i) => !flat[i]), node => node >= k ? [30, 30] : [104, 40], { gap: 46, between: 46 });
     const inside = [], texts = [], paths = it.paths.slice();
     edges.forEach((edge, i) => {
       const [a, b] = lay[i], reversed = layers[a] > layers[b];

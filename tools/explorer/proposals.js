@@ -19,7 +19,9 @@ function proposalsOf(it) {
     const worst = held[other].reduce((w, q) => w < 0 || rank.get(q) > rank.get(w) ? q : w, -1);
     if (full && rank.get(worst) < rank.get(row)) {
       step.strikes = [[row, other]];
-      step.text = `${name} proposes to ${to}: refused, ${to} would rather keep ${held[other].map(q => it.names[q]).join(', ')}.`;
+      const count = held[other].length;
+      const kept = count > 8 ? `all ${count} that it holds` : held[other].map(q => it.names[q]).join(', ');
+      step.text = `${name} proposes to ${to}: refused, ${to} would rather keep ${kept}.`;
       continue;
     }
     step.text = `${name} proposes to ${to}: there is a place, and ${to} holds ${name}.`;

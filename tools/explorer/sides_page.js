@@ -92,7 +92,8 @@ function startJumps() {
 
 function start() {
   const count = rows ? plural(rows.flat().length, 'stable matching') : `more than ${data.most} stable matchings`;
-  const facts = [`${model.kind}: ${model.P.length} proposers`, `${model.R.length} reviewers`, plural(model.k, 'rotation'), count];
+  const facts = [`${model.kind}: ${plural(model.P.length, 'proposer')}`, plural(model.R.length, 'reviewer'),
+    plural(model.k, 'rotation'), count];
   $('facts').textContent = (model.conditions ? [...facts, plural(model.conditions, 'condition')] : facts).join(', ');
   startJumps();
   const acts = { up: () => orderView.see(walk.up()), down: () => orderView.see(walk.down()), undo: () => walk.undo(),
@@ -106,8 +107,8 @@ function start() {
     $('onlyMoving').checked = $('onlyStable').checked = true;
   } else $('exportBox').open = $('netBox').open = true;
   if (isLarge || !latticeView.few) $('main').classList.add('large');
-  $('agreement').textContent = 'From the lines of rotations it makes closed sets and their matchings, and looks for pairs that block ' +
-    `them. ${model.agreement(rows).text}`;
+  $('agreement').textContent = 'From the lines of rotations it makes closed sets and their matchings, and looks for pairs that ' +
+    `block them. ${model.agreement(rows).text}`;
   const sides = { 'proposers propose': () => deferredAcceptance(model, false),
     'reviewers propose': () => deferredAcceptance(model, true) };
   whenOpened('acceptance', () => {

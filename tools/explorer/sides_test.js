@@ -1,12 +1,15 @@
 // The test of the page of a marriage or hospitals.
+
+// Clicks each rotation, and tells how many milliseconds each click took, with the layout that follows.
 function testRotations(tried) {
   const nodes = orderView.nodes;
-  let spent = 0;
+  const spent = [0];
+  document.body.getBoundingClientRect();
   nodes.forEach((node, i) => {
     const begun = performance.now();
     fire(node);
     document.body.getBoundingClientRect();
-    spent += performance.now() - begun;
+    spent.push(performance.now() - begun);
     const taken = nodes.map(it => it.getAttribute('aria-checked') === 'true');
     if (!taken.every((it, j) => !it || model.needs[j].every(l => taken[l]))) tried.want(`closed after rotation ${i + 1}`, false);
     if (!document.querySelector('#verdict .good')) tried.want(`stable after rotation ${i + 1}`, false);
@@ -20,7 +23,7 @@ function testRotations(tried) {
     node.dispatchEvent(new MouseEvent('mouseleave'));
     return also === others.length + 1;
   });
-  return spent / Math.max(1, model.k);
+  return spent;
 }
 
 function testJumps(tried) {
@@ -170,15 +173,17 @@ function testPage() {
   const tried = new Tried();
   tried.want('starts at the proposers’ best', shownVector(model) === model.vectorOf(model.marks[0].of));
   tried.want('the page agrees with the list', model.agreement(rows).ok);
-  const each = testRotations(tried);
+  // Browsers pass over changes of the address where there are some hundreds within seconds, so this comes first.
+  testAddress(tried);
+  const spent = testRotations(tried);
   testJumps(tried);
   testLattice(tried);
   testCompare(tried);
   testHand(tried);
   testSteps(tried);
   testNets(tried);
-  testAddress(tried);
   const claims = testExport(tried);
-  tried.lines.push(`${each.toFixed(1)} ms for a click`);
+  const mean = spent.reduce((sum, it) => sum + it) / Math.max(1, model.k);
+  tried.lines.push(`${mean.toFixed(1)} ms for a click, at most ${Math.max(...spent).toFixed(1)}`);
   tried.end(claims);
 }

@@ -36,21 +36,29 @@ class StepsView {
     this.showRows(trace, step);
   }
 
-  // All rows, or of many those that the last step touches.
+  // All rows, or of many those that the last step touches, and at most 60.
   showRows(trace, step) {
     const { struck, held } = stateAfter(trace, this.at), fresh = new Set((step ? step.strikes : []).map(it => it.join(' ')));
     const touched = new Set(step ? [step.row, ...step.strikes.map(it => it[0]), ...step.holds ? step.holds[1] : []] : []);
     const rows = trace.names.map((_, row) => row).filter(row => trace.names.length <= 60 || touched.has(row)
-      || (!touched.size && row < 20));
+      || (!touched.size && row < 20)).slice(0, 60);
     this.table.replaceChildren(...rows.map(row => el('tr', { class: step && step.row === row ? 'changed' : '' },
-      el('th', { scope: 'row' }, trace.names[row]), el('td', {}, el('div', { class: 'chips' },
-      ...trace.lists[row].map(other => {
-        const key = `${row} ${other}`, isHeld = held.has(key), isStruck = struck.has(key),
-          isNow = step && step.row === row && step.other === other;
-        const words = ['chip', isStruck ? 'struck' : isHeld ? 'now' : 'stable', fresh.has(key) ? 'fresh' : '',
-          isNow ? 'asked' : ''].filter(it => it).join(' ');
-        return el('span', { class: words, title: isStruck ? 'struck' : isHeld ? 'holds' : 'not asked yet' },
-          `${trace.otherNames[other]}${isHeld ? ' ✓' : isStruck ? ' ✗' : ''}`);
-      }))))));
+      el('th', { scope: 'row' }, trace.names[row]), el('td', {}, el('div', { class: 'chips' }, ...this.entries(trace, step, row,
+        struck, held, fresh))))));
+  }
+
+  // The entries of a row as boxes; of a long list their numbers, and those that the step touches.
+  entries(trace, step, row, struck, held, fresh) {
+    const list = trace.lists[row], isNow = other => step && step.row === row && step.other === other;
+    const key = other => `${row} ${other}`, isLong = list.length > 60;
+    const count = set => list.filter(other => set.has(key(other))).length;
+    const boxes = list.filter(other => !isLong || isNow(other) || fresh.has(key(other))).map(other => {
+      const isHeld = held.has(key(other)), isStruck = struck.has(key(other));
+      const words = ['chip', isStruck ? 'struck' : isHeld ? 'now' : 'stable', fresh.has(key(other)) ? 'fresh' : '',
+        isNow(other) ? 'asked' : ''].filter(it => it).join(' ');
+      return el('span', { class: words, title: isStruck ? 'struck' : isHeld ? 'holds' : 'not asked yet' },
+        `${trace.otherNames[other]}${isHeld ? ' ✓' : isStruck ? ' ✗' : ''}`);
+    });
+    return isLong ? [`${count(held)} held ✓ and ${count(struck)} struck ✗ of ${list.length}`, ...boxes] : boxes;
   }
 }

@@ -53,6 +53,11 @@ end
 ''')
 
 
+# A hospital of 1,025 places with as many proposers: one place and proposer more than the limit of seats allows.
+NAMES = [f'r{i}' for i in range(1025)]
+SEATS = '\n'.join(['stable 1 hospitals', *(f'p {it}: h0' for it in NAMES), f'r h0 [1025]: {" ".join(NAMES)}', 'end', ''])
+
+
 def written_by(commands, text, table):
     """What the last of some commands writes, in a folder with the script, the tools, an instance and a table."""
     with tempfile.TemporaryDirectory() as folder:
@@ -167,13 +172,25 @@ class Pages(unittest.TestCase):
             self.assertEqual(tried(page)[1], 'explorer: passed', tried(page)[0])
 
     def test_refused(self):
-        names = [f'p{i}' for i in range(1025)]
-        seats = '\n'.join(['stable 1 hospitals', *(f'p {it}: h' for it in names), f'r h [2000]: {" ".join(names)}', 'end', ''])
-        for text, what in ((seats, 'TooManySeats'), ('stable 1 marriage\n', 'MissingEnd'), (example('two_matchings'), 'AfterEnd')):
+        for text, what in (('stable 1 marriage\n', 'MissingEnd'), (example('two_matchings'), 'AfterEnd')):
             status, page, fault = explore(text)
             self.assertEqual((status, page), (1, ''))
             self.assertIn(what, fault)
-            self.assertEqual('tools/trim' in fault, what == 'TooManySeats')
+            self.assertNotIn('tools/trim', fault)
+
+    def test_too_many_seats(self):
+        """Where there are too many seats the page has the lists, and says why the rest is grey."""
+        status, page, fault = explore(SEATS)
+        self.assertEqual(status, 0)
+        self.assertRegex(fault, r'refused TooManySeats 1027\b.*tools/trim')
+        self.assertLess(len(page.encode()), 100_000)
+        data = data_in(page)
+        self.assertEqual((data['text'], data['answers']), (SEATS, {}))
+        self.assertIn('have more than 1,048,576 entries', data['whyNot'])
+        self.assertEqual(program.ask(SEATS, 'export')[1].strip(), re.search(r'id="exported">(.*?)</script>', page).group(1))
+        self.assertEqual([len(it['list']) for it in data['instance']['reviewers']], [1025])
+        if BROWSER:
+            self.assertEqual(tried(page)[1], 'explorer: passed', tried(page)[0])
 
     def test_words(self):
         for words in (['--most', '0'], ['--most', '1001'], ['--most', 'x'], ['--m', '3'], ['a', 'b']):
