@@ -48,5 +48,5 @@ pub record AreGreatest (numbers greatest : List ℕ) : Type 0 where
 
 -- what is kept is right for the instance
 pub record AreKeptOf (w : Written) (regrets : Regrets) : Type 0 where
-  pub worse : AreWorseRanks w regrets.ranks.items regrets.worse.items
+  pub worse : AreWorseRanks w regrets.ranks regrets.worse.items
   pub greatest : AreGreatest regrets.worse.items regrets.greatest.items

@@ -93,7 +93,7 @@ fn feed(
     ensures regrets { AreKeptOf instance.now regrets.new }
 {
     let regret = regrets.regret(instance, ranks);
-    feed_each(tallies, ranks, regret);
+    feed_each(tallies, ranks, regrets.counts(), regret);
 }
 
 /// The last vector to which a lister came, where another one follows it.

@@ -4,9 +4,11 @@ ghost use Rattle.std.specs.Prelude.{◌≡◌, ◌+◌, ◌<◌, ℕ, true, List
 ghost use Rattle.sm_instance.specs.Matching.{IsMatching};
 ghost use Rattle.sm_instance.specs.Ranks.{rank_vector_of, regret_of};
 ghost use Rattle.sm_seats.specs.Vectors.{IsAllowedRankVector};
+ghost use Rattle.sm_tally.specs.Counts.{AreCountsOf};
 ghost use Rattle.sm_answer_survey.specs.Regrets.{piece, IsWorseRank, AreWorseRanks, AreSameIn, AreKeptBut, IsGreatestIn, AreGreatest, AreKeptOf};
 
 use sm_instance::Instance;
+use sm_tally::{CountedRanks, RankCounts};
 use std::alloc::{AllocError, Global};
 
 /// How many proposers a piece has.
@@ -17,7 +19,7 @@ const PIECE: u32 = 64;
 #[derive(Drop)]
 pub(crate) struct Regrets {
     /// For each proposer the rank of its partner, 0 before the first matching.
-    ranks: Vec<u32>,
+    ranks: CountedRanks,
     /// For each proposer the greater of the ranks that it and its partner give each other.
     worse: Vec<u32>,
     /// For each piece the greatest of these.
@@ -34,7 +36,7 @@ impl Regrets {
         ensures { IfOk result (λ regrets. AreKeptOf instance.now regrets) }
     {
         let count = instance.proposer_count();
-        let ranks = vec![in alloc; 0; count as usize]?;
+        let ranks = CountedRanks::new(alloc, count)?;
         let worse = vec![in alloc; 0; count as usize]?;
         let greatest = vec![in alloc; 0; count.div_ceil(PIECE) as usize]?;
         Ok(Regrets {
@@ -54,10 +56,18 @@ impl Regrets {
             ≡ rank_vector_of instance.now places
             → result ≡ regret_of instance.now places }
         ensures kept { AreKeptOf instance.now self.new }
+        ensures ranks { self.new.ranks ≡ ranks.now }
     {
         let of_pieces = self.greatest.as_mut_slice();
         keep_pieces(instance, ranks, &mut self.ranks, &mut self.worse, of_pieces);
         greatest(of_pieces)
+    }
+
+    /// What is counted of the ranks of the last matching. Takes constant time.
+    pub(crate) fn counts(&self) -> RankCounts
+        ensures { AreCountsOf self.now.ranks result }
+    {
+        self.ranks.counts()
     }
 }
 
@@ -65,7 +75,7 @@ impl Regrets {
 fn keep_pieces(
     instance: &Instance,
     ranks: &[u32],
-    kept: &mut [u32],
+    kept: &mut CountedRanks,
     worse: &mut [u32],
     greatest: &mut [u32],
 )
@@ -80,7 +90,7 @@ fn keep_pieces(
     for piece in 0..greatest.len() {
         let from = piece as u32 * PIECE;
         let to = (from + PIECE).min(count);
-        if !are_same(kept, ranks, from, to) {
+        if !are_same(kept.ranks(), ranks, from, to) {
             keep(instance, ranks, from, to, kept, worse);
             greatest[piece] = greatest_in(worse, from, to);
         }
@@ -101,7 +111,14 @@ fn are_same(kept: &[u32], ranks: &[u32], from: u32, to: u32) -> bool
 }
 
 /// Puts the ranks of a matching in place of those that are kept of these proposers, which are a piece.
-fn keep(instance: &Instance, ranks: &[u32], from: u32, to: u32, kept: &mut [u32], worse: &mut [u32])
+fn keep(
+    instance: &Instance,
+    ranks: &[u32],
+    from: u32,
+    to: u32,
+    kept: &mut CountedRanks,
+    worse: &mut [u32],
+)
     requires vector { IsAllowedRankVector instance.now ranks.now }
     requires worse { AreWorseRanks instance.now kept.old worse.old }
     requires piece { to ≡ min (from + piece) (length kept.old) }
@@ -112,8 +129,8 @@ fn keep(instance: &Instance, ranks: &[u32], from: u32, to: u32, kept: &mut [u32]
 {
     for p in from..to {
         let rank = ranks[p as usize];
-        if kept[p as usize] != rank {
-            kept[p as usize] = rank;
+        if kept.ranks()[p as usize] != rank {
+            kept.set(p, rank);
             worse[p as usize] = worse_rank(instance, ranks, p);
         }
     }

@@ -1,10 +1,10 @@
-use Rattle.std.proofs.Common.{◌∙◌, sym, arith}
+use Rattle.std.proofs.Common.{length, ap, ◌∙◌, sym, arith}
 use Rattle.std.proofs.lemmas.List.{ext_get_or}
 use Rattle.sm_answer_list.proofs.RankLemmas.{vector_long}
 use Rattle.sm_answer_survey.proofs.regrets.keep_pieces.Goals as goal
 
 pub are_same-requires-clause-long : goal.are_same-requires-clause-long
-are_same-requires-clause-long c = c.loop-piece.invariant.worse.ranks_each ∙ sym (vector_long c.requires.vector)
+are_same-requires-clause-long c = ap length c.ranks.ensures ∙ c.loop-piece.invariant.worse.ranks_each ∙ sym (vector_long c.requires.vector)
 
 pub returns-clause-ranks : goal.returns-clause-ranks
 returns-clause-ranks c =
