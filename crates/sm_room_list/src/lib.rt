@@ -5,6 +5,7 @@
 //! and places are numbered from 0, ranks from 1.
 #![tactic(auto)]
 
+mod choices;
 mod finding;
 pub mod laws;
 mod lister;

@@ -3,7 +3,7 @@
 ghost use Rattle.std.specs.Prelude.{◌≡◌, ℕ, true, false, List, None, Some, length, option_map, IfOk, IfErr, MatchOption};
 ghost use Rattle.sm_room_list.specs.RoomListers.{cursor_of, IsNextVector, IsNoneLeft, AreRoot, IsRoomStarted};
 
-use crate::finding::find_within;
+use crate::finding::vector_within;
 use crate::search::{Found, find_above, least_within};
 use crate::tops::Tops;
 use sm_room::RoomMarket;
@@ -87,8 +87,9 @@ impl RoomLister {
     /// as it was.
     ///
     /// A test looks for a stable matching in copies of the lists that are cut, in time and memory in proportion to the persons and
-    /// entries. A step makes at most three tests for each person that find nothing; each other one finds a vector, which is before
-    /// the one that was found last.
+    /// entries. Before it the ranks are tried that persons have where some have the first that they could have, and those the last:
+    /// one look through the lists, which finds a vector wherever the persons fall into two sides. A step makes at most three tests
+    /// for each person that find nothing; each other one finds a vector, which is before the one that was found last.
     ///
     /// # Errors
     ///
@@ -167,7 +168,7 @@ fn first_vector(
         (λ v. IsNextVector market.now None v.items)) }
 {
     let tops = root.copied(alloc)?;
-    let Some(vector) = find_within(alloc, market, &tops.tops)? else {
+    let Some(vector) = vector_within(alloc, market, &tops)? else {
         return Ok(None);
     };
     let found = Found {

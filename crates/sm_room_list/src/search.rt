@@ -7,7 +7,7 @@ ghost use Rattle.sm_room_list.specs.RoomVectors.{IsRoomVector};
 ghost use Rattle.sm_room_list.specs.Tops.{AreTops, IsVectorWithin};
 ghost use Rattle.sm_room_list.specs.Search.{AreAlike, NoneAt, HoldAlike, HoldAbove, IsHeld, IsLeastWithin, IsSettledAt};
 
-use crate::finding::find_within;
+use crate::finding::vector_within;
 use crate::tops::Tops;
 use sm_room::RoomMarket;
 use std::alloc::{AllocError, Global};
@@ -86,7 +86,7 @@ fn find_at(
     if !go_above(market, last, k, &mut tops) {
         return Ok(None);
     }
-    let Some(vector) = find_within(alloc, market, &tops.tops)? else {
+    let Some(vector) = vector_within(alloc, market, &tops)? else {
         return Ok(None);
     };
     Ok(Some(Found {
@@ -319,7 +319,7 @@ fn try_top(
 {
     let mut tops = held.tops.copied(alloc)?;
     tops.cap(market, x, top);
-    let Some(vector) = find_within(alloc, market, &tops.tops)? else {
+    let Some(vector) = vector_within(alloc, market, &tops)? else {
         return Ok(false);
     };
     held.tops = tops;

@@ -135,7 +135,7 @@ fn open_all(market: &RoomMarket, tops: &mut [u32], passed: &mut [u32])
 }
 
 /// Sets each top to one more than the list is long, so that it cuts nothing.
-fn open_tops(market: &RoomMarket, tops: &mut [u32])
+pub(crate) fn open_tops(market: &RoomMarket, tops: &mut [u32])
     requires { length tops.old ≡ length market.now }
     ensures one_each { length tops.new ≡ length market.now }
     ensures free { (x : ℕ) → x < length market.now → slice_index tops.new x
@@ -275,7 +275,7 @@ fn pass(market: &RoomMarket, x: u32, tops: &[u32], passed: &mut [u32])
 }
 
 /// Whether a person and whoever stands at a place of its list are acceptable to each other, and it stands there before the top.
-fn is_open(market: &RoomMarket, x: u32, place: u32, tops: &[u32]) -> bool
+pub(crate) fn is_open(market: &RoomMarket, x: u32, place: u32, tops: &[u32]) -> bool
     requires in_range { x < length market.now }
     requires on_list { place < length (row market.now x) }
     requires one_each { length tops.now ≡ length market.now }

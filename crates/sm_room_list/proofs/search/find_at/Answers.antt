@@ -14,7 +14,7 @@ pub returns-then-not-go_above : goal.returns-then-not-go_above
 returns-then-not-go_above c = c.go_above.ensures.none c.if-not-go_above.true
 
 pub returns-in_default : goal.returns-in_default
-returns-in_default c = λ w r above. let b = (c.go_above.ensures.above c.if-not-go_above.false).all w r above in let none = rw c.in_default.is at c.in_ok-vector.ensures in (rw c.deref.ensures.value at none) b.matching b.within
+returns-in_default c = λ w r above. let b = (c.go_above.ensures.above c.if-not-go_above.false).all w r above in let none = rw c.in_default.is at c.in_ok-vector.ensures in none b.matching b.within
 
 pub returns : goal.returns
-returns c = let here = rw c.in-Some.is at c.in_ok-vector.ensures in (refl, record { kept = c.go_above.ensures.tops; here = rw c.deref.ensures.value at here }, c.go_above.ensures.above c.if-not-go_above.false)
+returns c = let here = rw c.in-Some.is at c.in_ok-vector.ensures in (refl, record { kept = c.go_above.ensures.tops; here = here }, c.go_above.ensures.above c.if-not-go_above.false)
