@@ -148,6 +148,11 @@ fn put_digits(text: &mut Vec<u8>, digits: &mut LineWriter, number: u32) -> Resul
         text.push(b'0' + number as u8)?;
         return Ok(());
     }
+    if number < 100 {
+        text.push(b'0' + (number / 10) as u8)?;
+        text.push(b'0' + (number % 10) as u8)?;
+        return Ok(());
+    }
     digits.clear();
     digits.put_number(u64::from(number))?;
     text.extend_from_slice(digits.bytes())
