@@ -1,3 +1,4 @@
+pub mod KeptLemmas
 pub mod WordLemmas
 pub mod BoundLemmas
 pub mod FormLemmas

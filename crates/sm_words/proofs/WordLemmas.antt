@@ -1,39 +1,94 @@
 -- The words, tried from the left.
-use Rattle.std.proofs.Common.{◌≡◌, ℕ, suc, ◌+◌, ◌<◌, Bool, true, false, cond, List, ◌∷◌, length, drop, get_or, Some, None, Err, String, string_bytes, sym, ap, ◌∙◌, ◌-◌, ◌≤◌, take, add-one, drop-cons, length-drop, arith}
-use Rattle.std.proofs.lemmas.List.{take_all}
+use Rattle.std.proofs.Common.{◌≡◌, ℕ, suc, ◌+◌, ◌<◌, Bool, true, false, cond, List, ◌∷◌, length, drop, get_or, Some, Err, String, string_bytes, sym, ap, ◌∙◌, ◌-◌, ◌≤◌, take, add-one, drop-cons, length-drop, arith, [], ◌++◌, None, Ok, refl, subst, append_assoc, append-nil}
+use Rattle.std.proofs.lemmas.List.{take_all, drop_all, length-append}
+use Rattle.std.proofs.lemmas.Option.{none-some, same_Some}
+use Rattle.std.specs.List.{list_all}
 use Rattle.std.specs.Option.{option_map_or}
 use Rattle.std.specs.declared.alloc.Global.{Global}
 use Rattle.sm_report.specs.Meanings.{look_up}
 use Rattle.sm_words.specs.declared.operands.Command.{Command}
 use Rattle.sm_words.specs.Tables.{commands}
-use Rattle.sm_words.specs.Operands.{GivenData, with_word}
-use Rattle.sm_words.specs.Words.{read_operands, asked, words_meaning, texts}
+use Rattle.sm_words.specs.Operands.{is_operand, may_follow}
+use Rattle.sm_words.specs.Words.{right_words, asked, words_meaning, texts}
+use Rattle.sm_words.specs.Kept.{GivenData, with_word, kept_of, AreKept}
+use Rattle.sm_words.proofs.KeptLemmas.{word_taken, follows}
 
 texts_from : (words : List (String Global)) (i : ℕ) (w : String Global) → i < length words → w ≡ get_or words i w → texts (drop i words) ≡ string_bytes w ∷ texts (drop (i + 1) words)
 texts_from words i w here is =
     ap texts (drop-cons words i w here) ∙ ap (λ (x : String Global). string_bytes x ∷ texts (drop (suc i) words)) (sym is) ∙ ap (λ n. string_bytes w ∷ texts (drop n words)) (sym (add-one i))
 
-operands_next : (command : Command) (n : ℕ) (g g' : GivenData) (word : List ℕ) (more : List (List ℕ)) (fits : Bool) → with_word command word g ≡ cond fits (Some g') None → fits ≡ true
-    → read_operands command n g (word ∷ more) ≡ read_operands command (n + 1) g' more
-operands_next command n g g' word more fits is good =
-    ap (λ o. option_map_or (λ g. read_operands command (n + 1) g more) o (Err n)) (is ∙ ap (λ b. cond b (Some g') None) good)
+-- the words so far are right and kept, and trying the rest comes to what trying all of them comes to
+pub record IsTrying (command : Command) (number : ℕ) (given : GivenData) (rest all : List (List ℕ)) : Type 0 where
+  pub before : List (List ℕ)
+  pub splits : before ++ rest ≡ all
+  pub numbered : number ≡ length before + 2
+  pub operands : list_all (is_operand command) before ≡ true
+  pub kept : given ≡ kept_of before
+  pub so_far : right_words command before rest ≡ right_words command [] all
 
-operands_stop : (command : Command) (n : ℕ) (g g' : GivenData) (word : List ℕ) (more : List (List ℕ)) (fits : Bool) → with_word command word g ≡ cond fits (Some g') None → fits ≡ false
-    → read_operands command n g (word ∷ more) ≡ Err n
-operands_stop command n g g' word more fits is wrong =
-    ap (λ o. option_map_or (λ g. read_operands command (n + 1) g more) o (Err n)) (is ∙ ap (λ b. cond b (Some g') None) wrong)
+-- at first
+pub trying_first : (command : Command) (given : GivenData) (all : List (List ℕ)) → given ≡ kept_of [] → IsTrying command 2 given all all
+trying_first command given all is = record { before = []; splits = refl; numbered = refl; operands = refl; kept = is; so_far = refl }
 
--- a word was taken
-pub read_operands-taken : (command : Command) (n : ℕ) (g g' : GivenData) (words : List (String Global)) (i : ℕ) (w : String Global) (text : List ℕ) (fits : Bool) → i < length words → w ≡ get_or words i w → text ≡ string_bytes w
-    → with_word command text g ≡ cond fits (Some g') None → fits ≡ true → read_operands command n g (texts (drop i words)) ≡ read_operands command (n + 1) g' (texts (drop (i + 1) words))
-read_operands-taken command n g g' words i w text fits here is shows took good =
-    ap (read_operands command n g) (texts_from words i w here is ∙ ap (λ t. t ∷ texts (drop (i + 1) words)) (sym shows)) ∙ operands_next command n g g' text (texts (drop (i + 1) words)) fits took good
+-- behind all words
+trying_last : (command : Command) (number : ℕ) (given : GivenData) (all : List (List ℕ)) → IsTrying command number given [] all → AreKept command all given
+trying_last command number given all t =
+    let same : t.before ≡ all = sym (append-nil t.before) ∙ t.splits in
+    record { right = sym t.so_far ∙ ap Ok same; kept = t.kept ∙ ap kept_of same }
 
--- a word is faulty
-pub read_operands-faulty : (command : Command) (n : ℕ) (g g' : GivenData) (words : List (String Global)) (i : ℕ) (w : String Global) (text : List ℕ) (fits : Bool) → i < length words → w ≡ get_or words i w → text ≡ string_bytes w
-    → with_word command text g ≡ cond fits (Some g') None → fits ≡ false → read_operands command n g (texts (drop i words)) ≡ Err n
-read_operands-faulty command n g g' words i w text fits here is shows took wrong =
-    ap (read_operands command n g) (texts_from words i w here is ∙ ap (λ t. t ∷ texts (drop (i + 1) words)) (sym shows)) ∙ operands_stop command n g g' text (texts (drop (i + 1) words)) fits took wrong
+-- two answers about a word are one
+same_answer : {X : Type 0} (a b : Bool) (x y : X) → cond a (Some x) None ≡ cond b (Some y) None → a ≡ b
+same_answer true true x y e = refl
+same_answer true false x y e = absurd (none-some x (sym e))
+same_answer false true x y e = absurd (none-some y e)
+same_answer false false x y e = refl
+
+module _ (command : Command) (number : ℕ) (g g' : GivenData) (word : List ℕ) (rest all : List (List ℕ)) (fits : Bool) (t : IsTrying command number g (word ∷ rest) all) (took : with_word command word g ≡ cond fits (Some g') None) where
+  abbrev more : List (List ℕ)
+  more = t.before ++ word ∷ []
+
+  answers : cond fits (Some g') None ≡ cond (may_follow command t.before word) (Some (kept_of more)) None
+  answers = sym took ∙ ap (with_word command word) t.kept ∙ word_taken command t.before word t.operands
+
+  follow : may_follow command t.before word ≡ fits
+  follow = sym (same_answer fits (may_follow command t.before word) g' (kept_of more) answers)
+
+  by_word : cond fits (right_words command more rest) (Err (length t.before + 2)) ≡ right_words command [] all
+  by_word = ap (λ b. cond b (right_words command more rest) (Err (length t.before + 2))) (sym follow) ∙ t.so_far
+
+  -- a word was taken
+  trying_next : fits ≡ true → IsTrying command (number + 1) g' rest all
+  trying_next good =
+      let fit = follow ∙ good in
+      record {
+        before = more;
+        splits = append_assoc t.before (word ∷ []) rest ∙ t.splits;
+        numbered = let h = t.numbered in let e = length-append t.before (word ∷ []) in omega arith;
+        operands = follows command t.before word t.operands fit;
+        kept = same_Some _ _ (ap (λ b. cond b (Some g') None) (sym good) ∙ answers ∙ ap (λ b. cond b (Some (kept_of more)) None) fit);
+        so_far = ap (λ b. cond b (right_words command more rest) (Err (length t.before + 2))) (sym good) ∙ by_word;
+      }
+
+  -- a word is faulty
+  trying_stopped : fits ≡ false → right_words command [] all ≡ Err number
+  trying_stopped wrong = sym by_word ∙ ap (λ b. cond b (right_words command more rest) (Err (length t.before + 2))) wrong ∙ ap Err (sym t.numbered)
+
+-- the same in the loop over the words
+module _ (command : Command) (number : ℕ) (g g' : GivenData) (words : List (String Global)) (i : ℕ) (w : String Global) (text : List ℕ) (fits : Bool) (t : IsTrying command number g (texts (drop i words)) (texts words)) (here : i < length words) (is : w ≡ get_or words i w) (shows : text ≡ string_bytes w) (took : with_word command text g ≡ cond fits (Some g') None) where
+  abbrev rest : List (List ℕ)
+  rest = texts (drop (i + 1) words)
+
+  trying : IsTrying command number g (text ∷ rest) (texts words)
+  trying = subst (λ r. IsTrying command number g r (texts words)) (texts_from words i w here is ∙ ap (λ x. x ∷ rest) (sym shows)) t
+
+  pub loop_next : fits ≡ true → IsTrying command (number + 1) g' (texts (drop (i + 1) words)) (texts words)
+  loop_next = trying_next command number g g' text rest (texts words) fits trying took
+
+  pub loop_stopped : fits ≡ false → right_words command [] (texts words) ≡ Err number
+  loop_stopped = trying_stopped command number g g' text rest (texts words) fits trying took
+
+pub loop_ended : (command : Command) (number : ℕ) (g : GivenData) (words : List (String Global)) (i : ℕ) → IsTrying command number g (texts (drop i words)) (texts words) → length words ≤ i → AreKept command (texts words) g
+loop_ended command number g words i t past = trying_last command number g (texts words) (subst (λ ws. IsTrying command number g (texts ws) (texts words)) (drop_all i words past) t)
 
 -- the words behind the first, as a slice pattern gives them
 abbrev pub others : List (String Global) → List (String Global)

@@ -1,7 +1,5 @@
 -- The tables of the command line: its commands, the operands of each, and the values of each operand.
-use Rattle.std.specs.Prelude.{List, [], ◌∷◌, ℕ, Bool, true, false, codes, Option, option_map}
-use Rattle.sm_agents.specs.declared.kinds.Measure.{Measure}
-use Rattle.sm_agents.specs.declared.kinds.Side.{Side}
+use Rattle.std.specs.Prelude.{List, [], ◌∷◌, ℕ, Bool, true, false, codes, Option, is_some}
 use Rattle.sm_text.specs.Numbers.{number_of}
 use Rattle.sm_make.specs.declared.shape.Shape.{Shape}
 use Rattle.sm_make.specs.declared.shape.Shape.TheVariants.{Copies, Cycle, Random, Hospitals, Rooms}
@@ -14,8 +12,6 @@ use Rattle.sm_words.specs.declared.operands.Command.{Command}
 use Rattle.sm_words.specs.declared.operands.Command.TheVariants as command
 use Rattle.sm_words.specs.declared.operands.Operand.{Operand}
 use Rattle.sm_words.specs.declared.operands.Operand.TheVariants as operand
-use Rattle.sm_words.specs.declared.operands.Value.{Value}
-use Rattle.sm_words.specs.declared.operands.Value.TheVariants as value
 
 -- the commands by their names
 abbrev pub commands : List (List ℕ × Command)
@@ -80,30 +76,6 @@ shows = (codes "text", false) ∷ (codes "summary", true) ∷ []
 abbrev pub forms : List (List ℕ × Form)
 forms = (codes "text", Text) ∷ (codes "json", Json) ∷ []
 
--- the value of an operand, as plain data
-pub data ValueData : Type 0 where
-  OfSide : Side → ValueData
-  OfAfter : List ℕ → ValueData
-  OfLimit : ℕ → ValueData
-  OfBy : Measure → ValueData
-  OfShape : Shape → ValueData
-  OfSize : ℕ → ValueData
-  OfSeed : ℕ → ValueData
-  OfShow : Bool → ValueData
-  OfForm : Form → ValueData
-
--- a value as plain data
-abbrev pub value_of : Value → ValueData
-value_of (value.OfSide side) = OfSide side
-value_of (value.OfAfter after) = OfAfter after.items
-value_of (value.OfLimit limit) = OfLimit limit
-value_of (value.OfBy by) = OfBy by
-value_of (value.OfShape shape) = OfShape shape
-value_of (value.OfSize size) = OfSize size
-value_of (value.OfSeed seed) = OfSeed seed
-value_of (value.OfShow summary) = OfShow summary
-value_of (value.OfForm form) = OfForm form
-
 -- a size that a text spells
 abbrev pub size_named : List ℕ → Option ℕ
 size_named text = number_within least_size greatest_size text
@@ -112,14 +84,14 @@ size_named text = number_within least_size greatest_size text
 abbrev pub seed_named : List ℕ → Option ℕ
 seed_named text = number_of text most_seed
 
--- the value that a text gives to an operand
-abbrev pub value_named : Operand → List ℕ → Option ValueData
-value_named operand.Side text = option_map OfSide (look_up sides text)
-value_named operand.After text = option_map OfAfter (vector_in text)
-value_named operand.Limit text = option_map OfLimit (limit_named text)
-value_named operand.By text = option_map OfBy (look_up measures text)
-value_named operand.Shape text = option_map OfShape (look_up shapes text)
-value_named operand.Size text = option_map OfSize (size_named text)
-value_named operand.Seed text = option_map OfSeed (seed_named text)
-value_named operand.Show text = option_map OfShow (look_up shows text)
-value_named operand.Form text = option_map OfForm (look_up forms text)
+-- whether a text is a value of an operand
+abbrev pub is_value : Operand → List ℕ → Bool
+is_value operand.Side text = is_some (look_up sides text)
+is_value operand.After text = is_some (vector_in text)
+is_value operand.Limit text = is_some (limit_named text)
+is_value operand.By text = is_some (look_up measures text)
+is_value operand.Shape text = is_some (look_up shapes text)
+is_value operand.Size text = is_some (size_named text)
+is_value operand.Seed text = is_some (seed_named text)
+is_value operand.Show text = is_some (look_up shows text)
+is_value operand.Form text = is_some (look_up forms text)

@@ -1,9 +1,9 @@
 //! The commands and their operands: a row for each name, and a reader for each value.
 
-ghost use Rattle.std.specs.Prelude.{◌≡◌, Some, None, IfOk, option_map, if◌then◌else◌};
+ghost use Rattle.std.specs.Prelude.{◌≡◌, [], Some, None, IfOk, option_map, if◌then◌else◌};
 ghost use Rattle.sm_report.specs.Meanings.{look_up};
-ghost use Rattle.sm_words.specs.Tables.{commands, operands_of, shapes, shows, forms, ValueData, value_of, value_named, size_named, seed_named};
-ghost use Rattle.sm_words.specs.Operands.{given_of, once, with_value, with_word, nothing_given};
+ghost use Rattle.sm_words.specs.Tables.{commands, operands_of, shapes, shows, forms, size_named, seed_named};
+ghost use Rattle.sm_words.specs.Kept.{ValueData, value_of, value_named, given_of, kept_of, once, with_value, with_word};
 
 use crate::jobs::Form;
 use sm_instance::{Measure, Side};
@@ -109,7 +109,7 @@ pub(crate) fn command_named(name: &str) -> Option<Command>
 
 /// No operand is given yet.
 pub(crate) fn nothing() -> Given
-    ensures { given_of result ≡ nothing_given }
+    ensures { given_of result ≡ kept_of [] }
 {
     Given {
         side: None,

@@ -1,10 +1,10 @@
 //! Reading the words.
 
-ghost use Rattle.std.specs.Prelude.{◌≡◌, ◌+◌, length, IfOk, IfErr, Ok, option_map};
+ghost use Rattle.std.specs.Prelude.{◌≡◌, ◌+◌, ℕ, List, [], length, IfOk, IfErr, Ok, option_map};
 ghost use Rattle.sm_make.specs.Made.{most_size};
 ghost use Rattle.sm_words.specs.Jobs.{job_of, asked_of, IsFormFor, IsInBounds};
-ghost use Rattle.sm_words.specs.Operands.{given_of, nothing_given};
-ghost use Rattle.sm_words.specs.Words.{texts, read_operands, job_for, is_too_large, gives_size, word_of_size, asked, words_meaning, IsFaultBy, IsWordsFault, IsNoMemory};
+ghost use Rattle.sm_words.specs.Kept.{given_of, kept_of, AreKept};
+ghost use Rattle.sm_words.specs.Words.{texts, right_words, job_for, is_too_large, gives_size, word_of_size, asked, words_meaning, IsFaultBy, IsWordsFault, IsNoMemory};
 
 use crate::jobs::{Form, Job, WordsFault};
 use crate::operands::{Command, GREATEST_SIZE, Given, command_named, nothing, take_word};
@@ -82,10 +82,8 @@ fn command_job(
 
 /// The operands that words give, the first of which has the number 2.
 fn operands_in(alloc: Global, command: Command, words: &[String]) -> Result<Given, WordsFault>
-    ensures given { IfOk result (λ given. read_operands command 2 nothing_given (texts words.now)
-        ≡ Ok (given_of given)) }
-    ensures fault { IfErr result (λ fault. IsFaultBy (read_operands command 2 nothing_given
-        (texts words.now)) fault) }
+    ensures given { IfOk result (λ given. AreKept command (texts words.now) (given_of given)) }
+    ensures fault { IfErr result (λ fault. IsFaultBy (right_words command [] (texts words.now)) fault) }
 {
     let mut given = nothing();
     let mut number = FIRST_OPERAND;
@@ -100,7 +98,8 @@ fn operands_in(alloc: Global, command: Command, words: &[String]) -> Result<Give
 
 /// The job of a command with its operands; `None` where a required one is missing.
 fn job_for(command: Command, given: Given) -> Option<Job>
-    ensures { option_map job_of result ≡ job_for command (given_of given) }
+    ensures { (words : List (List ℕ)) → given_of given ≡ kept_of words
+        → option_map job_of result ≡ job_for command words }
 {
     match command {
         Command::Solve => Some(Job::Solve(given.side)),
@@ -124,7 +123,8 @@ fn job_for(command: Command, given: Given) -> Option<Job>
 
 /// What `make` asks for with its operands; `None` where a required one is missing.
 fn making(given: &Given) -> Option<Job>
-    ensures { option_map job_of result ≡ job_for Command.Make (given_of given.now) }
+    ensures { (words : List (List ℕ)) → given_of given.now ≡ kept_of words
+        → option_map job_of result ≡ job_for Command.Make words }
 {
     Some(Job::Make(
         given.shape?,
