@@ -6,7 +6,7 @@ ghost use Rattle.sm_seats.specs.Correspondence.{IsSeating};
 ghost use Rattle.sm_answer_list.specs.ListAnswer.{IsCursor};
 ghost use Rattle.sm_answer_list.specs.Started.{cursor_in, IsListerOf};
 
-use sm_answer_rotations::{Basis, conditions_of};
+use sm_answer_rotations::{conditions_of, find_poset};
 use sm_answer_vectors::{copy_of_cursor, small_copy};
 use sm_instance::Instance;
 use sm_least::Least;
@@ -18,7 +18,7 @@ use std::alloc::{AllocError, Global};
 /// where one is given, in the order of the instance.
 ///
 /// The vector has an item for each proposer; it needn't be that of a matching. Takes the time and the memory of
-/// [`Basis::of`] and [`Lister::start`], and all memory of the listing but that of its lines.
+/// [`find_poset`] and [`Lister::start`], and all memory of the listing but that of its lines.
 ///
 /// # Errors
 ///
@@ -34,9 +34,9 @@ pub fn start_list(
     requires after { IsCursor (length instance.now.proposers) (cursor_in after.now) }
     ensures { IfOk result (λ lister. IsListerOf instance.now (cursor_in after.now) lister) }
 {
-    let basis = Basis::of(alloc, seats)?;
-    let _chain = basis.poset.chain();
-    let least = Least::start(alloc, &basis.poset, seats.levels(alloc)?)?;
+    let poset = find_poset(alloc, seats)?;
+    let _chain = poset.chain();
+    let least = Least::start(alloc, &poset, seats.levels(alloc)?)?;
     let conditions = conditions_of(alloc, instance)?;
     let order = small_copy(alloc, instance.order())?;
     let after = copy_of_cursor(alloc, after)?;

@@ -11,7 +11,7 @@ ghost use Rattle.sm_answer_pairs.specs.PairsAnswer.{IsPairsAnswer};
 ghost use Rattle.sm_answer_pairs.specs.Found.{line_of_pair, pairs_given, pairs_at_levels, AreFromOne};
 
 use sm_answer::{Answer, Lines, One, Printed, Then};
-use sm_answer_rotations::Basis;
+use sm_answer_rotations::find_poset;
 use sm_instance::{Input, Instance};
 use sm_lattice::stable_levels;
 use sm_report::{Head, Line};
@@ -29,7 +29,7 @@ pub struct StablePair {
 
 /// The pairs of the stable matchings of an instance, by proposer and along its list.
 ///
-/// Takes the time and the memory of [`Basis::of`] and [`sm_lattice::stable_levels`]: a proposer has a place in a stable matching
+/// Takes the time and the memory of [`find_poset`] and [`sm_lattice::stable_levels`]: a proposer has a place in a stable matching
 /// where it is its first or a rotation moves it there (Gusfield and Irving 1989, section 2.3.3).
 ///
 /// # Errors
@@ -44,9 +44,9 @@ pub fn find_pairs(
     requires seating { IsSeating instance.now seats.now }
     ensures { IfOk result (λ pairs. IsPairsAnswer instance.now (pairs_given pairs.items)) }
 {
-    let basis = Basis::of(alloc, seats)?;
+    let poset = find_poset(alloc, seats)?;
     let levels = seats.levels(alloc)?;
-    let rows = stable_levels(alloc, &basis.poset, &levels)?;
+    let rows = stable_levels(alloc, &poset, &levels)?;
     let mut pairs = Vec::new(alloc);
     for p in 0..instance.proposer_count() {
         push_pairs(&mut pairs, instance, p, &rows[p as usize])?;

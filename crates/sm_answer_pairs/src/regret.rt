@@ -17,7 +17,7 @@ ghost use Rattle.sm_answer_pairs.specs.RegretFound.{IsLeastRegretOfSeats};
 
 use crate::least_regret::LeastRegret;
 use sm_answer::{Each, Lines, One, Printed, Then};
-use sm_answer_rotations::{Basis, PairLines, conditions_of};
+use sm_answer_rotations::{PairLines, conditions_of, find_poset};
 use sm_instance::{Input, Instance};
 use sm_lattice::min_regret;
 use sm_least::Least;
@@ -28,7 +28,7 @@ use std::alloc::{AllocError, Global};
 /// The stable matching of the least regret among those that the conditions of an instance allow, and of those that have it the
 /// one that is best for all proposers (Gusfield 1987). `None` exactly where no stable matching is allowed.
 ///
-/// Takes the time and the memory of [`Basis::of`] and of a dozen searches, as those of [`sm_lattice::min_regret`].
+/// Takes the time and the memory of [`find_poset`] and of a dozen searches, as those of [`sm_lattice::min_regret`].
 ///
 /// # Errors
 ///
@@ -45,13 +45,13 @@ pub fn find_regret(
         → ¬ IsAllowed instance.now places)
         (λ f. IsLeastRegretOfSeats instance.now seats.now f)) }
 {
-    let basis = Basis::of(alloc, seats)?;
-    let mut least = Least::start(alloc, &basis.poset, seats.levels(alloc)?)?;
+    let poset = find_poset(alloc, seats)?;
+    let mut least = Least::start(alloc, &poset, seats.levels(alloc)?)?;
     let conditions = conditions_of(alloc, instance)?;
     let ranks = worse_ranks(alloc, instance, seats, least.levels())?;
     match min_regret(alloc, &mut least, &ranks, &conditions)? {
         Some((regret, set)) => {
-            let matching = basis.poset.matching_of(alloc, &set)?;
+            let matching = poset.matching_of(alloc, &set)?;
             Ok(Some(LeastRegret { regret, matching }))
         }
         None => Ok(None),

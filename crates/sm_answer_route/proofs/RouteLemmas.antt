@@ -130,13 +130,13 @@ route_sound {w} {s} input first rotations needs steps left right two i h x left_
 
 -- the steps that are found are those of the values that are read of the poset
 pub route_found : {w : Written} {given : Given} {found : FoundRoute} (first : Paired) (rotations : List (List (ℕ × ℕ))) (steps : List Step) → IsRouteFound w given found
-    → first ≡ found.basis.poset.first → rotations ≡ found.basis.poset.rotations → steps ≡ found.steps.items → AreStepsBetween w first.places rotations given.left.places.items given.right.places.items steps
+    → first ≡ found.poset.first → rotations ≡ found.poset.rotations → steps ≡ found.steps.items → AreStepsBetween w first.places rotations given.left.places.items given.right.places.items steps
 route_found {w} {given} {found} first rotations steps h ef er es =
     let left = given.left.places.items in
     let right = given.right.places.items in
     subst (λ x. AreStepsBetween w first.places rotations left right x) (sym es)
     (subst (λ (r : List (List (ℕ × ℕ))). AreStepsBetween w first.places r left right found.steps.items) (sym er)
-    (subst (λ (f : Paired). AreStepsBetween w f.places found.basis.poset.rotations left right found.steps.items) (sym ef) h.route))
+    (subst (λ (f : Paired). AreStepsBetween w f.places found.poset.rotations left right found.steps.items) (sym ef) h.route))
 
 -- a closed set of the seats is one of the poset of their market
 pub set_closed : {w : Written} (poset : RotationPoset) {places : List (Option ℕ)} {set : List Bool} → poset.lists ≡ seat_market w → IsSetOf w poset.first.places poset.rotations places set → IsClosed poset.lists poset.rotations set

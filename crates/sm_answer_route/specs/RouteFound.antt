@@ -8,5 +8,5 @@ use Rattle.sm_answer_route.specs.declared.found.FoundRoute.{FoundRoute}
 
 -- the poset of the seats, and the steps from the left matching to the right one
 pub record IsRouteFound (w : Written) (given : Given) (found : FoundRoute) : Type 0 where
-  pub market : found.basis.poset.lists ≡ seat_market w
-  pub route : AreStepsBetween w found.basis.poset.first.places found.basis.poset.rotations given.left.places.items given.right.places.items found.steps.items
+  pub market : found.poset.lists ≡ seat_market w
+  pub route : AreStepsBetween w found.poset.first.places found.poset.rotations given.left.places.items given.right.places.items found.steps.items

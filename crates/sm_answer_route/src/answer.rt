@@ -18,7 +18,7 @@ use crate::seated::set_for;
 use crate::step_lines::StepLines;
 use sm_answer::{Answer, Each, Lines, MatchingLines, One, PairWord, Printed, Then};
 use sm_answer_given::Given;
-use sm_answer_rotations::{Basis, RotationLines, Rotations, SeatLines};
+use sm_answer_rotations::{RotationLines, Rotations, SeatLines, find_poset};
 use sm_instance::{Input, Instance, Side};
 use sm_lattice::route;
 use sm_report::{Head, Line};
@@ -29,7 +29,7 @@ use std::alloc::{AllocError, Global};
 /// each rotation that leads to the left matching alone, highest number first, and then `Forth` for each that leads to the right
 /// one alone, lowest first. Each matching on the way is a stable one of the seats.
 ///
-/// Takes the time and the memory of [`Basis::of`], of [`Seats::to_seats`] and of [`sm_poset::Poset::set_of`] for both matchings,
+/// Takes the time and the memory of [`find_poset`], of [`Seats::to_seats`] and of [`sm_poset::Poset::set_of`] for both matchings,
 /// and of [`sm_lattice::route`].
 ///
 /// # Errors
@@ -47,11 +47,11 @@ pub fn find_route(
     requires right { IsStable instance.now given.now.right.places.items }
     ensures { IfOk result (λ found. IsRouteFound instance.now given.now found) }
 {
-    let basis = Basis::of(alloc, seats)?;
-    let left = set_for(alloc, instance, seats, &basis.poset, &given.left)?;
-    let right = set_for(alloc, instance, seats, &basis.poset, &given.right)?;
-    let steps = route(alloc, &basis.poset, &left, &right)?;
-    Ok(FoundRoute { basis, steps })
+    let poset = find_poset(alloc, seats)?;
+    let left = set_for(alloc, instance, seats, &poset, &given.left)?;
+    let right = set_for(alloc, instance, seats, &poset, &given.right)?;
+    let steps = route(alloc, &poset, &left, &right)?;
+    Ok(FoundRoute { poset, steps })
 }
 
 /// The lines of the two matchings.
@@ -87,8 +87,8 @@ pub fn route_lines<'a>(
     ensures some { HasRest (⟦<RouteLines<'a> as Lines>⟧.gives result) }
 {
     let _count = instance.proposer_count();
-    let chain = found.basis.poset.chain();
-    let needs = found.basis.poset.all_needs();
+    let chain = found.poset.chain();
+    let needs = found.poset.all_needs();
     Printed {
         input,
         answer: Then {

@@ -38,9 +38,9 @@ use Rattle.sm_answer_rotations.specs.GivenLines.{two_lines}
 use Rattle.sm_answer_rotations.proofs.ShownLemmas.{matching_is}
 use Rattle.sm_answer_rotations.proofs.PairLemmas.{pair_alike}
 use Rattle.sm_answer_rotations.proofs.RotationLemmas.{flat_map_alike, lines_shown, first_shown}
-use Rattle.sm_answer_weight.specs.WeightAnswer.{FillsCut, AreCertificates, gain_in, second_gain_in, in_two, WeightParts, net_in, second_net_in, matching_in, gained_lines, flow_line, second_flow_line, member_numbers, second_figures, weight_lines, IsWeightAnswer}
+use Rattle.sm_answer_weight.specs.WeightAnswer.{FillsCut, AreCertificates, gain_in, second_gain_in, in_two, WeightParts, net_in, second_net_in, matching_in, gained_lines, second_flow_line, second_figures, weight_lines, IsWeightAnswer}
 use Rattle.sm_instance.specs.Lightest.{IsLightestByBoth}
-use Rattle.sm_answer_weight.specs.Found.{IsLightestOfSeats, shown_ends}
+use Rattle.sm_answer_weight.specs.Found.{IsLightestOfSeats}
 use Rattle.sm_answer_weight.specs.Given.{row_lines, rows_found, edge_line, second_gain_line, weight_given}
 use Rattle.sm_answer_weight.specs.declared.figures.FlowLevel.TheVariants.{First, Second}
 use Rattle.sm_answer_weight.specs.declared.lightest_parts.Lightest.{Lightest}
@@ -55,16 +55,6 @@ pub gained_shown : (by : Measure) (w : Written) (parts : WeightParts) (k : ℕ) 
 gained_shown by w parts k =
     ap (λ (t : List LineData). t ++ LineData.Gain (k + 1) (gain_in by w parts k) ∷ in_two (has_two_levels by w) (LineData.SecondGain (k + 1) (second_gain_in by w parts k) ∷ []))
     (sym (lines_shown (seating_of w) parts.first parts.rotations parts.needs k))
-
--- the lines of a flow
-flow_shown : (sink : ℕ) (flow : List FlowLine) → map (edge_line First) (map (shown_ends sink) flow) ≡ map (flow_line sink) flow
-flow_shown sink [] = refl
-flow_shown sink (line ∷ flow) = ap (λ t. flow_line sink line ∷ t) (flow_shown sink flow)
-
--- and of a second one
-second_flow_shown : (sink : ℕ) (flow : List FlowLine) → map (edge_line Second) (map (shown_ends sink) flow) ≡ map (second_flow_line sink) flow
-second_flow_shown sink [] = refl
-second_flow_shown sink (line ∷ flow) = ap (λ t. second_flow_line sink line ∷ t) (second_flow_shown sink flow)
 
 -- in one level there are no lines of a second flow
 flow_in_two : (two : Bool) (sink : ℕ) (flow : List FlowLine) → (two ≡ false → flow ≡ []) → map (second_flow_line sink) flow ≡ in_two two (map (second_flow_line sink) flow)
@@ -83,111 +73,111 @@ glued_alike head a a' b b' c c' d d' f f' e e' t t' v v' k k' z z' ea eb ec ed e
 -- What is found, in the market of the seats.
 
 abbrev seated_poset : Written → Lightest → RotationPoset
-seated_poset w found = poset_of (seat_market w) found.basis.poset.first found.basis.poset.rotations
+seated_poset w found = poset_of (seat_market w) found.poset.first found.poset.rotations
 
-abbrev parts_in : {w : Written} {found : Lightest} → IsLightestOfSeats w (seating_of w) found → List (List ℕ) → WeightParts
-parts_in {w} {found} f needs = record {
-  first = found.basis.poset.first.places;
-  rotations = found.basis.poset.rotations;
+abbrev parts_in : Lightest → List (List ℕ) → WeightParts
+parts_in found needs = record {
+  first = found.poset.first.places;
+  rotations = found.poset.rotations;
   needs = needs;
-  flow = f.source.flow.items;
-  second = f.source.flow2.items;
-  taken = f.source.set.members.items;
+  flow = found.in_market.flow.items;
+  second = found.in_market.flow2.items;
+  taken = found.in_market.set.members.items;
 }
 
-module _ {w : Written} (h : IsSeating w (seating_of w)) (found : Lightest) (f : IsLightestOfSeats w (seating_of w) found) (p : IsPoset found.basis.poset) (needs : List (List ℕ)) (n : AreNeeds found.basis.poset.lists found.basis.poset.rotations needs) where
-  same_poset : found.basis.poset ≡ seated_poset w found
-  same_poset = ap (λ (l : Lists). poset_of l found.basis.poset.first found.basis.poset.rotations) f.market
+module _ {w : Written} (h : IsSeating w (seating_of w)) (found : Lightest) (f : IsLightestOfSeats w (seating_of w) found) (p : IsPoset found.poset) (needs : List (List ℕ)) (n : AreNeeds found.poset.lists found.poset.rotations needs) where
+  same_poset : found.poset ≡ seated_poset w found
+  same_poset = ap (λ (l : Lists). poset_of l found.poset.first found.poset.rotations) f.market
 
-  lightest_there : IsLightestFound (seated_poset w found) (levels_of (seating_of w)) (weights_of found.by w (seating_of w)) (seconds_by found.by w (seating_of w)) (leveled w w.forced) (leveled w w.forbidden) f.source
-  lightest_there = subst (λ (q : RotationPoset). IsLightestFound q (levels_of (seating_of w)) (weights_of found.by w (seating_of w)) (seconds_by found.by w (seating_of w)) (leveled w w.forced) (leveled w w.forbidden) f.source) same_poset f.lightest
+  lightest_there : IsLightestFound (seated_poset w found) (levels_of (seating_of w)) (weights_of found.by w (seating_of w)) (seconds_by found.by w (seating_of w)) (leveled w w.forced) (leveled w w.forbidden) found.in_market
+  lightest_there = subst (λ (q : RotationPoset). IsLightestFound q (levels_of (seating_of w)) (weights_of found.by w (seating_of w)) (seconds_by found.by w (seating_of w)) (leveled w w.forced) (leveled w w.forbidden) found.in_market) same_poset f.lightest
 
-  needs_there : AreNeeds (seat_market w) found.basis.poset.rotations needs
+  needs_there : AreNeeds (seat_market w) found.poset.rotations needs
   needs_there = subst (λ (q : RotationPoset). AreNeeds q.lists q.rotations needs) same_poset n
 
-  printed_there : IsPrintedChain (seat_market w) found.basis.poset.first.places found.basis.poset.rotations
+  printed_there : IsPrintedChain (seat_market w) found.poset.first.places found.poset.rotations
   printed_there = subst (λ (q : RotationPoset). IsPrintedChain q.lists q.first.places q.rotations) same_poset p.printed
 
   -- what is of the nets by levels is of the nets that are shown
-  full_there : AreFullFlows (net_in found.by w (parts_in f needs)) (second_net_in found.by w (parts_in f needs)) f.source
+  full_there : AreFullFlows (net_in found.by w (parts_in found needs)) (second_net_in found.by w (parts_in found needs)) found.in_market
   full_there =
       let chain = printed_there.chain in
-      let flow = amount_on f.source.flow.items in
-      subst (λ (net : Net). AreFullFlows net (second_net_in found.by w (parts_in f needs)) f.source) (sym (net_is_shown h chain found.by needs))
-      (subst (λ (other : Net). AreFullFlows (net_of (seat_market w) (levels_of (seating_of w)) (weights_of found.by w (seating_of w)) (leveled w w.forced) (leveled w w.forbidden) found.basis.poset.first.places found.basis.poset.rotations needs) other f.source)
+      let flow = amount_on found.in_market.flow.items in
+      subst (λ (net : Net). AreFullFlows net (second_net_in found.by w (parts_in found needs)) found.in_market) (sym (net_is_shown h chain found.by needs))
+      (subst (λ (other : Net). AreFullFlows (net_of (seat_market w) (levels_of (seating_of w)) (weights_of found.by w (seating_of w)) (leveled w w.forced) (leveled w w.forbidden) found.poset.first.places found.poset.rotations needs) other found.in_market)
       (sym (second_net_is_shown h chain found.by needs flow)) (lightest_there.full needs needs_there))
 
-  places_there : found.matching.places ≡ set_matching (seated_poset w found) f.source.set.members.items
-  places_there = f.places ∙ ap (λ (q : RotationPoset). set_matching q found.taken.members.items) same_poset ∙ ap (set_matching (seated_poset w found)) f.taken
+  places_there : found.matching.places ≡ set_matching (seated_poset w found) found.in_market.set.members.items
+  places_there = f.places ∙ ap (λ (q : RotationPoset). set_matching q found.in_market.set.members.items) same_poset
 
   -- the matching that is shown of the set
-  shown_is : matching_in w (parts_in f needs) ≡ written_of (seating_of w) (set_matching (seated_poset w found) f.source.set.members.items).proposers
-  shown_is = matching_is h needs printed_there.chain needs_there.each f.source.set.members.items
+  shown_is : matching_in w (parts_in found needs) ≡ written_of (seating_of w) (set_matching (seated_poset w found) found.in_market.set.members.items).proposers
+  shown_is = matching_is h needs printed_there.chain needs_there.each found.in_market.set.members.items
 
   -- it is the lightest in the instance, too
-  lightest_in : IsLightestByBoth found.by w (matching_in w (parts_in f needs))
+  lightest_in : IsLightestByBoth found.by w (matching_in w (parts_in found needs))
   lightest_in = subst (IsLightestByBoth found.by w) (sym shown_is)
-      (lightest_by_both h found.by (set_matching (seated_poset w found) f.source.set.members.items) lightest_there.lightest lightest_there.best)
+      (lightest_by_both h found.by (set_matching (seated_poset w found) found.in_market.set.members.items) lightest_there.lightest lightest_there.best)
 
   -- in one level there are no second gains
-  no_gains : has_two_levels found.by w ≡ false → AreZero f.source.gains2.items
+  no_gains : has_two_levels found.by w ≡ false → AreZero found.in_market.gains2.items
   no_gains one k =
       let s = seating_of w in
       let weigh = pair_second_by found.by w in
       ap (λ (gains : List ℤ). slice_index_or gains k (pos 0)) lightest_there.gains2
-      ∙ read_zero (gain_of (seat_market w) (seconds_by found.by w s)) (gain_none weigh (none_second found.by w one) s (seat_market w)) found.basis.poset.rotations k
+      ∙ read_zero (gain_of (seat_market w) (seconds_by found.by w s)) (gain_none weigh (none_second found.by w one) s (seat_market w)) found.poset.rotations k
 
   -- so the first flow reaches the set, and there is no second one
-  alone_there : has_two_levels found.by w ≡ false → IsOfOneLevel (net_in found.by w (parts_in f needs)) f.source
-  alone_there is = subst (λ (net : Net). IsOfOneLevel net f.source) (sym (net_is_shown h printed_there.chain found.by needs)) (lightest_there.one_level (no_gains is) needs needs_there)
+  alone_there : has_two_levels found.by w ≡ false → IsOfOneLevel (net_in found.by w (parts_in found needs)) found.in_market
+  alone_there is = subst (λ (net : Net). IsOfOneLevel net found.in_market) (sym (net_is_shown h printed_there.chain found.by needs)) (lightest_there.one_level (no_gains is) needs needs_there)
 
   -- each flow fills the cut of the set
-  fills : {net : Net} {flow : List FlowLine} {cut : ℕ} → IsFullFlow net flow f.source.set.members.items cut → FillsCut net flow f.source.set.members.items
+  fills : {net : Net} {flow : List FlowLine} {cut : ℕ} → IsFullFlow net flow found.in_market.set.members.items cut → FillsCut net flow found.in_market.set.members.items
   fills full = record { lines = full.lines; is_flow = full.is_flow; full = full.value ∙ sym full.cut_is }
 
   certified : (two : Bool) → has_two_levels found.by w ≡ two
-      → AreCertificates two (net_in found.by w (parts_in f needs)) (second_net_in found.by w (parts_in f needs)) f.source.flow.items f.source.flow2.items f.source.set.members.items
+      → AreCertificates two (net_in found.by w (parts_in found needs)) (second_net_in found.by w (parts_in found needs)) found.in_market.flow.items found.in_market.flow2.items found.in_market.set.members.items
   certified true is = (fills full_there.first, record { fills = fills full_there.second; reach = full_there.reach })
   certified false is = let one = alone_there is in (record { fills = fills full_there.first; reach = one.reach }, one.no_flow)
 
   -- the lines of one rotation
-  rows_shown : (k : ℕ) → k < length found.basis.poset.rotations → row_lines (seating_of w) (rows_found found found.basis.poset.rotations needs) k ≡ gained_lines found.by w (parts_in f needs) k
+  rows_shown : (k : ℕ) → k < length found.poset.rotations → row_lines (seating_of w) (rows_found found found.poset.rotations needs) k ≡ gained_lines found.by w (parts_in found needs) k
   rows_shown k here =
       let s = seating_of w in
-      let rotations = found.basis.poset.rotations in
-      let parts = parts_in f needs in
-      let gain : slice_index_or found.gains.items k (pos 0) ≡ gain_in found.by w parts k =
-      ap (λ (xs : List ℤ). slice_index_or xs k (pos 0)) (f.gains ∙ lightest_there.gains) ∙ get_or-map (gain_of (seat_market w) (weights_of found.by w s)) rotations k [] (pos 0) here in
-      let second : slice_index_or found.second_gains.items k (pos 0) ≡ second_gain_in found.by w parts k =
-      ap (λ (xs : List ℤ). slice_index_or xs k (pos 0)) (f.second_gains ∙ lightest_there.gains2) ∙ get_or-map (gain_of (seat_market w) (seconds_by found.by w s)) rotations k [] (pos 0) here in
-      ap (λ z. two_lines s rotations needs k ++ LineData.Gain (k + 1) z ∷ in_two found.two_levels (second_gain_line found.second_gains.items k ∷ [])) gain
+      let rotations = found.poset.rotations in
+      let parts = parts_in found needs in
+      let gain : slice_index_or found.in_market.gains.items k (pos 0) ≡ gain_in found.by w parts k =
+      ap (λ (xs : List ℤ). slice_index_or xs k (pos 0)) lightest_there.gains ∙ get_or-map (gain_of (seat_market w) (weights_of found.by w s)) rotations k [] (pos 0) here in
+      let second : slice_index_or found.in_market.gains2.items k (pos 0) ≡ second_gain_in found.by w parts k =
+      ap (λ (xs : List ℤ). slice_index_or xs k (pos 0)) lightest_there.gains2 ∙ get_or-map (gain_of (seat_market w) (seconds_by found.by w s)) rotations k [] (pos 0) here in
+      ap (λ z. two_lines s rotations needs k ++ LineData.Gain (k + 1) z ∷ in_two found.two_levels (second_gain_line found.in_market.gains2.items k ∷ [])) gain
       ∙ ap (λ z. two_lines s rotations needs k ++ LineData.Gain (k + 1) (gain_in found.by w parts k) ∷ in_two found.two_levels (LineData.SecondGain (k + 1) z ∷ [])) second
       ∙ ap (λ two. two_lines s rotations needs k ++ LineData.Gain (k + 1) (gain_in found.by w parts k) ∷ in_two two (LineData.SecondGain (k + 1) (second_gain_in found.by w parts k) ∷ [])) f.two_levels
       ∙ sym (gained_shown found.by w parts k)
 
   -- the figures of the second level
-  second_shown : in_two found.two_levels (LineData.SecondValue found.second_value ∷ LineData.SecondCut found.second_value ∷ LineData.SecondTotal found.second_total ∷ [])
-      ≡ in_two (has_two_levels found.by w) (second_figures found.by w (parts_in f needs))
+  second_shown : in_two found.two_levels (LineData.SecondValue found.in_market.cut2 ∷ LineData.SecondCut found.in_market.cut2 ∷ LineData.SecondTotal found.second_total ∷ [])
+      ≡ in_two (has_two_levels found.by w) (second_figures found.by w (parts_in found needs))
   second_shown =
       let figures : ℕ → ℕ → ℤ → List LineData = (λ value cut total. LineData.SecondValue value ∷ LineData.SecondCut cut ∷ LineData.SecondTotal total ∷ []) in
       let two = has_two_levels found.by w in
-      let value : ℕ = flow_value (second_net_in found.by w (parts_in f needs)) (amount_on f.source.flow2.items) in
-      let cut : ℕ = cut_of (second_net_in found.by w (parts_in f needs)) f.source.set.members.items in
-      ap (λ two. in_two two (figures found.second_value found.second_value found.second_total)) f.two_levels
-      ∙ ap (λ v. in_two two (figures v found.second_value found.second_total)) (f.second_value ∙ sym full_there.second.value)
-      ∙ ap (λ k. in_two two (figures value k found.second_total)) (f.second_value ∙ sym full_there.second.cut_is)
+      let value : ℕ = flow_value (second_net_in found.by w (parts_in found needs)) (amount_on found.in_market.flow2.items) in
+      let cut : ℕ = cut_of (second_net_in found.by w (parts_in found needs)) found.in_market.set.members.items in
+      ap (λ two. in_two two (figures found.in_market.cut2 found.in_market.cut2 found.second_total)) f.two_levels
+      ∙ ap (λ v. in_two two (figures v found.in_market.cut2 found.second_total)) (sym full_there.second.value)
+      ∙ ap (λ k. in_two two (figures value k found.second_total)) (sym full_there.second.cut_is)
       ∙ ap (λ z. in_two two (figures value cut z)) (f.second_total ∙ ap (λ (x : Places). second_of found.by w (written_of (seating_of w) x.proposers)) places_there
       ∙ sym (ap (second_of found.by w) shown_is))
 
   -- the lines that are given are those of the answer
-  given_is : weight_given (seating_of w) found found.basis.poset.first.places found.basis.poset.rotations needs ≡ weight_lines found.by w (parts_in f needs)
+  given_is : weight_given (seating_of w) found found.poset.first.places found.poset.rotations needs (suc (length found.poset.rotations)) ≡ weight_lines found.by w (parts_in found needs)
   given_is =
       let s = seating_of w in
-      let first = found.basis.poset.first.places in
-      let rotations = found.basis.poset.rotations in
-      let parts = parts_in f needs in
+      let first = found.poset.first.places in
+      let rotations = found.poset.rotations in
+      let parts = parts_in found needs in
       let shown = shown_of s first rotations needs in
-      let m = set_matching (seated_poset w found) f.source.set.members.items in
+      let m = set_matching (seated_poset w found) found.in_market.set.members.items in
       let one = printed_there.chain.from_best.stable.matching.proposers.one_each in
       let count : length s.market.proposers - 0 ≡ length (map (first_seat s first) (agents s.market.proposers)) = (let long = length-map-range_with_len (first_seat s first) 0 (length s.market.proposers) in omega arith) in
       let many : length rotations - 0 ≡ length rotations = omega arith in
@@ -196,18 +186,17 @@ module _ {w : Written} (h : IsSeating w (seating_of w)) (found : Lightest) (f : 
       let two = has_two_levels found.by w in
       ap (λ figures. LineData.Answer (HeadData.Weight found.by) ∷ (lines_from (seat_line Proposers s first) 0 (length s.market.proposers - 0)
       ++ (flat_map (row_lines s (rows_found found rotations needs)) (range_with_len 0 (length rotations - 0))
-      ++ (map (edge_line First) found.flow.items ++ (map (edge_line Second) found.second_flow.items
+      ++ (map (edge_line First sink) found.in_market.flow.items ++ (map (edge_line Second sink) found.in_market.flow2.items
       ++ (figures ++ (lines_from (seated_pair_line s found.matching.places) 0 (length s.market.proposers - 0) ++ LineData.End ∷ []))))))) (figures_are found)
       ∙ glued_alike (LineData.Answer (HeadData.Weight found.by)) _ _ _ _ _ _ _ _ _ _ _ _ _ _ _ _ _ _ _ _
       (ap (lines_from (seat_line Proposers s first) 0) count ∙ lines_from-same (seat_line Proposers s first) (first_seat_line shown) (first_shown s first rotations needs one) 0 (length shown.firsts))
       (ap (λ k. flat_map (row_lines s (rows_found found rotations needs)) (range_with_len 0 k)) many
       ∙ flat_map_alike (row_lines s (rows_found found rotations needs)) (gained_lines found.by w parts) 0 (length rotations) (λ k l. rows_shown k (omega (arith, l))))
-      (ap (map (edge_line First)) f.flow ∙ flow_shown sink f.source.flow.items)
-      (ap (map (edge_line Second)) f.second_flow ∙ second_flow_shown sink f.source.flow2.items
-      ∙ flow_in_two two sink f.source.flow2.items (λ is. (alone_there is).no_flow))
-      (ap (λ set. LineData.Taken (member_numbers set (length set))) f.taken)
-      (ap (λ v. LineData.Value v) (f.value ∙ sym full_there.first.value))
-      (ap (λ v. LineData.Cut v) (f.value ∙ sym full_there.first.cut_is))
+      refl
+      (flow_in_two two sink found.in_market.flow2.items (λ is. (alone_there is).no_flow))
+      refl
+      (ap (λ v. LineData.Value v) (sym full_there.first.value))
+      (ap (λ v. LineData.Cut v) (sym full_there.first.cut_is))
       (ap (λ z. LineData.Total z) (f.total ∙ ap (λ (x : Places). written_weight found.by w (written_of s x.proposers)) places_there ∙ sym (ap (written_weight found.by w) shown_is)))
       second_shown
       (ap (λ (x : Places). lines_from (seated_pair_line s x) 0 (length s.market.proposers - 0)) places_there
@@ -215,23 +204,24 @@ module _ {w : Written} (h : IsSeating w (seating_of w)) (found : Lightest) (f : 
       ∙ lines_from-same (seated_pair_line s m) (pair_line w (written_of s m.proposers)) (pair_alike h m lightest_there.lightest.stable) 0 (length w.proposers)
       ∙ ap (λ (x : List (Option ℕ)). lines_from (pair_line w x) 0 (length w.proposers)) (sym shown_is))
 
-  right_there : IsInstance w → IsWeightAnswer found.by w (weight_given (seating_of w) found found.basis.poset.first.places found.basis.poset.rotations needs)
+  right_there : IsInstance w → IsWeightAnswer found.by w (weight_given (seating_of w) found found.poset.first.places found.poset.rotations needs (suc (length found.poset.rotations)))
   right_there i = record {
-    parts = parts_in f needs;
+    parts = parts_in found needs;
     printed = printed_there;
     needed = needs_there;
     certificates = certified (has_two_levels found.by w) refl;
     lightest = lightest_in;
     shows = given_is;
-    sound = given_sound i h found f p needs n;
+    sound = given_sound i h found f p needs (suc (length found.poset.rotations)) n;
   }
 
 -- the lines are a right answer, by the values from which they are read
-pub weight_right : (w : Written) (s : Seating) (found : Lightest) (first : Places) (rotations : List (List (ℕ × ℕ))) (needs : List (List ℕ)) → s ≡ seating_of w → IsInstance w → IsSeating w s → IsLightestOfSeats w s found → IsPoset found.basis.poset
-    → first ≡ found.basis.poset.first.places → rotations ≡ found.basis.poset.rotations → AreNeeds found.basis.poset.lists found.basis.poset.rotations needs
-    → IsWeightAnswer found.by w (weight_given s found first rotations needs)
-weight_right w s found first rotations needs is i h f p ef er n =
-    subst (λ (x : Places). IsWeightAnswer found.by w (weight_given s found x rotations needs)) (sym ef)
-    (subst (λ (x : List (List (ℕ × ℕ))). IsWeightAnswer found.by w (weight_given s found found.basis.poset.first.places x needs)) (sym er)
-    (subst (λ (t : Seating). IsSeating w t → IsLightestOfSeats w t found → IsWeightAnswer found.by w (weight_given t found found.basis.poset.first.places found.basis.poset.rotations needs)) (sym is)
-    (λ h f. right_there h found f p needs n i) h f))
+pub weight_right : (w : Written) (s : Seating) (found : Lightest) (first : Places) (rotations : List (List (ℕ × ℕ))) (needs : List (List ℕ)) (sink : ℕ) → s ≡ seating_of w → IsInstance w → IsSeating w s → IsLightestOfSeats w s found → IsPoset found.poset
+    → first ≡ found.poset.first.places → rotations ≡ found.poset.rotations → AreNeeds found.poset.lists found.poset.rotations needs → sink ≡ suc (length found.poset.rotations)
+    → IsWeightAnswer found.by w (weight_given s found first rotations needs sink)
+weight_right w s found first rotations needs sink is i h f p ef er n es =
+    subst (λ (x : Places). IsWeightAnswer found.by w (weight_given s found x rotations needs sink)) (sym ef)
+    (subst (λ (x : List (List (ℕ × ℕ))). IsWeightAnswer found.by w (weight_given s found found.poset.first.places x needs sink)) (sym er)
+    (subst (λ (x : ℕ). IsWeightAnswer found.by w (weight_given s found found.poset.first.places found.poset.rotations needs x)) (sym es)
+    (subst (λ (t : Seating). IsSeating w t → IsLightestOfSeats w t found → IsWeightAnswer found.by w (weight_given t found found.poset.first.places found.poset.rotations needs (suc (length found.poset.rotations)))) (sym is)
+    (λ h f. right_there h found f p needs n i) h f)))

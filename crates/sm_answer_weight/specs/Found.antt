@@ -1,5 +1,5 @@
 -- The lightest allowed matching by the seats of an instance.
-use Rattle.std.specs.Prelude.{◌≡◌, ℕ, suc, length, map, All}
+use Rattle.std.specs.Prelude.{◌≡◌, All}
 use Rattle.sm_agents.specs.Written.{Written}
 use Rattle.sm_instance.specs.Ranks.{weight_of, second_of}
 use Rattle.sm_market.specs.Pairing.{IsPairingOf}
@@ -7,16 +7,10 @@ use Rattle.sm_report.specs.Sound.{IsSmall, IsLarge}
 use Rattle.sm_seats.specs.Seating.{Seating, written_of, levels_of}
 use Rattle.sm_seats.specs.Correspondence.{leveled, weights_of}
 use Rattle.sm_theory.specs.declared.flow_lines.FlowLine.{FlowLine}
-use Rattle.sm_weight.specs.declared.weighing.LightestFound.{LightestFound}
 use Rattle.sm_weight.specs.Lightest.{IsLightestFound, set_matching}
-use Rattle.sm_answer_weight.specs.WeightAnswer.{shown_node}
 use Rattle.sm_seats.specs.PlaceWeights.{AreLight}
 use Rattle.sm_seats.specs.Levels.{has_two_levels, seconds_by}
 use Rattle.sm_answer_weight.specs.declared.lightest_parts.Lightest.{Lightest}
-
--- a line of a flow with its ends as lines of answers name them
-abbrev pub shown_ends : (sink : ℕ) → FlowLine → FlowLine
-shown_ends sink line = record { from = shown_node sink line.from; to = shown_node sink line.to; amount = line.amount }
 
 -- the numbers of a line of a flow have 32 and 64 bits
 pub record IsFlowLine (line : FlowLine) : Type 0 where
@@ -26,23 +20,15 @@ pub record IsFlowLine (line : FlowLine) : Type 0 where
 
 -- what is found is read off the lightest allowed matching of the seats
 pub record IsLightestOfSeats (w : Written) (s : Seating) (found : Lightest) : Type 0 where
-  pub market : found.basis.poset.lists ≡ s.market
+  pub market : found.poset.lists ≡ s.market
   pub made : IsPairingOf s.market found.matching
-  pub places : found.matching.places ≡ set_matching found.basis.poset found.taken.members.items
-  pub source : LightestFound
-  pub lightest : IsLightestFound found.basis.poset (levels_of s) (weights_of found.by w s) (seconds_by found.by w s)
-      (leveled w w.forced) (leveled w w.forbidden) source
+  pub places : found.matching.places ≡ set_matching found.poset found.in_market.set.members.items
+  pub lightest : IsLightestFound found.poset (levels_of s) (weights_of found.by w s) (seconds_by found.by w s)
+      (leveled w w.forced) (leveled w w.forbidden) found.in_market
   pub two_levels : found.two_levels ≡ has_two_levels found.by w
-  pub taken : found.taken.members.items ≡ source.set.members.items
-  pub gains : found.gains.items ≡ source.gains.items
-  pub value : found.value ≡ source.cut
-  pub flow : found.flow.items ≡ map (shown_ends (suc (length found.basis.poset.rotations))) source.flow.items
-  pub numbers : All IsFlowLine found.flow.items
+  pub numbers : All IsFlowLine found.in_market.flow.items
+  pub second_numbers : All IsFlowLine found.in_market.flow2.items
   pub light : AreLight (weights_of found.by w s)
-  pub total : found.total ≡ weight_of found.by w (written_of s found.matching.places.proposers)
-  pub second_gains : found.second_gains.items ≡ source.gains2.items
-  pub second_value : found.second_value ≡ source.cut2
-  pub second_flow : found.second_flow.items ≡ map (shown_ends (suc (length found.basis.poset.rotations))) source.flow2.items
-  pub second_numbers : All IsFlowLine found.second_flow.items
   pub second_light : AreLight (seconds_by found.by w s)
+  pub total : found.total ≡ weight_of found.by w (written_of s found.matching.places.proposers)
   pub second_total : found.second_total ≡ second_of found.by w (written_of s found.matching.places.proposers)

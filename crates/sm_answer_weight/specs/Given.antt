@@ -11,7 +11,7 @@ use Rattle.sm_theory.specs.declared.flow_lines.FlowLine.{FlowLine}
 use Rattle.sm_answer_rotations.specs.Reduction.{seat_line}
 use Rattle.sm_answer_rotations.specs.PairLines.{seated_pair_line}
 use Rattle.sm_answer_rotations.specs.RotationLines.{needs_line, rotation_line}
-use Rattle.sm_answer_weight.specs.WeightAnswer.{in_two, member_numbers}
+use Rattle.sm_answer_weight.specs.WeightAnswer.{in_two, flow_line, second_flow_line, member_numbers}
 use Rattle.sm_answer_weight.specs.declared.lightest_parts.Lightest.{Lightest}
 use Rattle.sm_answer_weight.specs.declared.gained_lines.RotationPart.{RotationPart}
 use Rattle.sm_answer_weight.specs.declared.gained_lines.RotationPart.TheVariants.{Pairs, Needs, Gain, SecondGain}
@@ -66,23 +66,23 @@ most_gained part n = 4 * n - given_before part
 
 -- one of the flows
 abbrev pub flow_in : FlowLevel → Lightest → List FlowLine
-flow_in First found = found.flow.items
-flow_in Second found = found.second_flow.items
+flow_in First found = found.in_market.flow.items
+flow_in Second found = found.in_market.flow2.items
 
--- the line of a flow whose ends are shown
-abbrev pub edge_line : FlowLevel → FlowLine → LineData
-edge_line First line = LineData.Flow line.from line.to line.amount
-edge_line Second line = LineData.SecondFlow line.from line.to line.amount
+-- the line of one of the flows
+abbrev pub edge_line : FlowLevel → (sink : ℕ) → FlowLine → LineData
+edge_line First = flow_line
+edge_line Second = second_flow_line
 
 -- what is said of the set that is taken: the first four alone in one level
 abbrev pub figure_line : Lightest → ℕ → LineData
 figure_line found i =
-    if i == 0 then LineData.Taken (member_numbers found.taken.members.items (length found.taken.members.items))
-    else (if i == 1 then LineData.Value found.value
-    else (if i == 2 then LineData.Cut found.value
+    if i == 0 then LineData.Taken (member_numbers found.in_market.set.members.items (length found.in_market.set.members.items))
+    else (if i == 1 then LineData.Value found.in_market.cut
+    else (if i == 2 then LineData.Cut found.in_market.cut
     else (if i == 3 then LineData.Total found.total
-    else (if i == 4 then LineData.SecondValue found.second_value
-    else (if i == 5 then LineData.SecondCut found.second_value
+    else (if i == 4 then LineData.SecondValue found.in_market.cut2
+    else (if i == 5 then LineData.SecondCut found.in_market.cut2
     else LineData.SecondTotal found.second_total)))))
 
 -- how many lines these are
@@ -94,19 +94,19 @@ abbrev pub rows_found : Lightest → List (List (ℕ × ℕ)) → List (List ℕ
 rows_found found rotations needs = record {
   rotations = rotations;
   needs = needs;
-  gains = found.gains.items;
-  second_gains = found.second_gains.items;
+  gains = found.in_market.gains.items;
+  second_gains = found.in_market.gains2.items;
   two = found.two_levels;
 }
 
 -- the whole answer
-abbrev pub weight_given : Seating → Lightest → Places → List (List (ℕ × ℕ)) → List (List ℕ) → List LineData
-weight_given s found first rotations needs =
+abbrev pub weight_given : Seating → Lightest → Places → List (List (ℕ × ℕ)) → List (List ℕ) → (sink : ℕ) → List LineData
+weight_given s found first rotations needs sink =
     (LineData.Answer (HeadData.Weight found.by) ∷ [])
     ++ (lines_from (seat_line Proposers s first) 0 (length s.market.proposers - 0)
     ++ (gained_left Pairs s (rows_found found rotations needs) 0
-    ++ (map (edge_line First) (drop 0 (flow_in First found))
-    ++ (map (edge_line Second) (drop 0 (flow_in Second found))
+    ++ (map (edge_line First sink) (drop 0 (flow_in First found))
+    ++ (map (edge_line Second sink) (drop 0 (flow_in Second found))
     ++ (lines_from (λ i. Some (figure_line found i)) 0 (figure_count found - 0)
     ++ (lines_from (seated_pair_line s found.matching.places) 0 (length s.market.proposers - 0)
     ++ (LineData.End ∷ [])))))))

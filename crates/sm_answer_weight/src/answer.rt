@@ -55,8 +55,9 @@ pub fn lightest_lines<'a>(
     ensures some { HasRest (⟦<LightestLines<'a> as Lines>⟧.gives result) }
 {
     let _count = instance.proposer_count();
-    let chain = found.basis.poset.chain();
-    let needs = found.basis.poset.all_needs();
+    let chain = found.poset.chain();
+    let needs = found.poset.all_needs();
+    let sink = chain.rotations.len() as u32 + 1;
     Printed {
         input,
         answer: Then {
@@ -85,12 +86,14 @@ pub fn lightest_lines<'a>(
                         first: FlowLines {
                             found,
                             level: FlowLevel::First,
+                            sink,
                             next: 0,
                         },
                         second: Then {
                             first: FlowLines {
                                 found,
                                 level: FlowLevel::Second,
+                                sink,
                                 next: 0,
                             },
                             second: Then {

@@ -2,7 +2,7 @@
 
 ghost use Rattle.std.specs.Prelude.{◌≡◌, ◌<◌, ◌^◌, length, IfOk};
 ghost use Rattle.sm_report.specs.Lines.{line_of};
-ghost use Rattle.sm_answer_weight.specs.WeightAnswer.{member_numbers};
+ghost use Rattle.sm_answer_weight.specs.WeightAnswer.{shown_node, member_numbers};
 ghost use Rattle.sm_answer_weight.specs.Given.{edge_line, flow_in};
 
 use crate::lightest_parts::Lightest;
@@ -25,6 +25,8 @@ pub enum FlowLevel {
 pub struct FlowLines<'a> {
     pub found: &'a Lightest,
     pub level: FlowLevel,
+    /// The node of the sink.
+    pub sink: u32,
     pub next: usize,
 }
 
@@ -32,7 +34,7 @@ impl Answer for FlowLines<'_> {
     ghost use Rattle.std.specs.Prelude.{◌≡◌, ◌-◌, drop, length, map};
     ghost use Rattle.sm_answer_weight.specs.Given.{edge_line, flow_in};
 
-    ghost gives = { λ s rest. rest ≡ map (edge_line s.level) (drop s.next (flow_in s.level s.found.now)) };
+    ghost gives = { λ s rest. rest ≡ map (edge_line s.level s.sink) (drop s.next (flow_in s.level s.found.now)) };
 
     ghost most = { λ s. length (flow_in s.level s.found.now) - s.next };
 
@@ -41,7 +43,7 @@ impl Answer for FlowLines<'_> {
         if self.next >= flow.len() {
             return Ok(None);
         }
-        let line = edge_line(self.level, flow[self.next]);
+        let line = edge_line(self.level, self.sink, flow[self.next]);
         self.next += 1;
         Ok(Some(line))
     }
@@ -52,19 +54,28 @@ fn flow_in(found: &Lightest, level: FlowLevel) -> &[FlowLine]
     ensures { result.now ≡ flow_in level found.now }
 {
     match level {
-        FlowLevel::First => &found.flow,
-        FlowLevel::Second => &found.second_flow,
+        FlowLevel::First => &found.in_market.flow,
+        FlowLevel::Second => &found.in_market.flow2,
     }
 }
 
-/// The line of an amount on an edge.
-fn edge_line(level: FlowLevel, edge: FlowLine) -> Line
-    ensures { line_of result ≡ edge_line level edge }
+/// The line of an amount on an edge, with the nodes as lines name them.
+fn edge_line(level: FlowLevel, sink: u32, edge: FlowLine) -> Line
+    ensures { line_of result ≡ edge_line level sink edge }
 {
+    let from = shown_node(sink, edge.from);
+    let to = shown_node(sink, edge.to);
     match level {
-        FlowLevel::First => Line::Flow(edge.from, edge.to, edge.amount),
-        FlowLevel::Second => Line::SecondFlow(edge.from, edge.to, edge.amount),
+        FlowLevel::First => Line::Flow(from, to, edge.amount),
+        FlowLevel::Second => Line::SecondFlow(from, to, edge.amount),
     }
+}
+
+/// The number by which a line names a node.
+fn shown_node(sink: u32, node: u32) -> u32
+    ensures { result ≡ shown_node sink node }
+{
+    if node == sink { u32::MAX } else { node }
 }
 
 /// The set that is taken, the value of the flow, the cut of the set, and the weight of its matching; in two levels then the value
@@ -72,7 +83,7 @@ fn edge_line(level: FlowLevel, edge: FlowLine) -> Line
 #[derive(Drop)]
 pub struct Figures<'a> {
     pub found: &'a Lightest,
-    ghost few: { length found.now.taken.members.items < 2 ^ 24 },
+    ghost few: { length found.now.in_market.set.members.items < 2 ^ 24 },
 }
 
 impl Numbered for Figures<'_> {
@@ -89,18 +100,18 @@ impl Numbered for Figures<'_> {
 
     fn line(&self, alloc: Global, i: u32) -> Result<Option<Line>, AllocError> {
         if i == 0 {
-            let taken = member_numbers(alloc, &self.found.taken.members)?;
+            let taken = member_numbers(alloc, &self.found.in_market.set.members)?;
             Ok(Some(Line::Taken(taken)))
         } else if i == 1 {
-            Ok(Some(Line::Value(self.found.value)))
+            Ok(Some(Line::Value(self.found.in_market.cut)))
         } else if i == 2 {
-            Ok(Some(Line::Cut(self.found.value)))
+            Ok(Some(Line::Cut(self.found.in_market.cut)))
         } else if i == 3 {
             Ok(Some(Line::Total(self.found.total)))
         } else if i == 4 {
-            Ok(Some(Line::SecondValue(self.found.second_value)))
+            Ok(Some(Line::SecondValue(self.found.in_market.cut2)))
         } else if i == 5 {
-            Ok(Some(Line::SecondCut(self.found.second_value)))
+            Ok(Some(Line::SecondCut(self.found.in_market.cut2)))
         } else {
             Ok(Some(Line::SecondTotal(self.found.second_total)))
         }

@@ -27,8 +27,8 @@ pub struct GainedLines<'a> {
     pub next: u32,
     /// The line of the next rotation that comes first; those before it are given already.
     pub part: RotationPart,
-    ghost one_each: { length found.now.gains.items ≡ length rows.rotations.now },
-    ghost second_each: { length found.now.second_gains.items ≡ length rows.rotations.now },
+    ghost one_each: { length found.now.in_market.gains.items ≡ length rows.rotations.now },
+    ghost second_each: { length found.now.in_market.gains2.items ≡ length rows.rotations.now },
 }
 
 impl Answer for GainedLines<'_> {
@@ -60,7 +60,8 @@ impl Answer for GainedLines<'_> {
                 Ok(Some(line))
             }
             RotationPart::Gain => {
-                let line = Line::Gain(self.next + 1, self.found.gains[self.next as usize]);
+                let gain = self.found.in_market.gains[self.next as usize];
+                let line = Line::Gain(self.next + 1, gain);
                 if self.found.two_levels {
                     self.part = RotationPart::SecondGain;
                     return Ok(Some(line));
@@ -70,7 +71,7 @@ impl Answer for GainedLines<'_> {
                 Ok(Some(line))
             }
             RotationPart::SecondGain => {
-                let gain = self.found.second_gains[self.next as usize];
+                let gain = self.found.in_market.gains2[self.next as usize];
                 let line = Line::SecondGain(self.next + 1, gain);
                 self.part = RotationPart::Pairs;
                 self.next += 1;

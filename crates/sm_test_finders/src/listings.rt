@@ -7,7 +7,7 @@ ghost use Rattle.sm_seats.specs.Seating.{levels_of};
 
 use crate::made::{MEMORY, agent, copy, marriage, three};
 use sm_answer_list::start_list;
-use sm_answer_rotations::Basis;
+use sm_answer_rotations::find_poset;
 use sm_instance::{Agent, Instance};
 use sm_lattice::stable_levels;
 use sm_least::Least;
@@ -180,10 +180,10 @@ fn search(rt: &(impl Abort + AllocGlobal), seats: &Seats) -> Least
     requires { AreLevels seats.now.market (levels_of seats.now) }
     ensures { length result.poset.lists.proposers ≡ 3 }
 {
-    let basis = Basis::of(rt.alloc(), seats).expect(rt, MEMORY);
+    let poset = find_poset(rt.alloc(), seats).expect(rt, MEMORY);
     let levels = seats.levels(rt.alloc()).expect(rt, MEMORY);
-    assert!(rt; basis.poset.market().proposers() == 3);
-    Least::start(rt.alloc(), &basis.poset, levels).expect(rt, MEMORY)
+    assert!(rt; poset.market().proposers() == 3);
+    Least::start(rt.alloc(), &poset, levels).expect(rt, MEMORY)
 }
 
 #[test]
@@ -199,10 +199,10 @@ fn a_search_within_bounds(rt: HostRuntime) {
 fn levels_of_cycle(rt: &(impl Abort + AllocGlobal), seats: &Seats) -> Vec<Vec<u32>>
     requires { AreLevels seats.now.market (levels_of seats.now) }
 {
-    let basis = Basis::of(rt.alloc(), seats).expect(rt, MEMORY);
+    let poset = find_poset(rt.alloc(), seats).expect(rt, MEMORY);
     let levels = seats.levels(rt.alloc()).expect(rt, MEMORY);
-    assert!(rt; basis.poset.market().proposers() == 3);
-    stable_levels(rt.alloc(), &basis.poset, &levels).expect(rt, MEMORY)
+    assert!(rt; poset.market().proposers() == 3);
+    stable_levels(rt.alloc(), &poset, &levels).expect(rt, MEMORY)
 }
 
 #[test]

@@ -10,7 +10,7 @@ use Rattle.sm_answer_list.proofs.start.start_list.Goals as goal
 -- as many as the proposers of the instance
 count : (c : In_ok-after) → length c.args.instance.now.proposers ≡ length c.in_ok-least.least.poset.lists.proposers
 count c =
-    sym (ap (λ (poset : RotationPoset). length poset.lists.proposers) c.in_ok-least.ensures.poset ∙ ap (λ (l : Lists). length l.proposers) c.in_ok-basis.ensures ∙ c.requires.seating.proposers)
+    sym (ap (λ (poset : RotationPoset). length poset.lists.proposers) c.in_ok-least.ensures.poset ∙ ap (λ (l : Lists). length l.proposers) c.in_ok-poset.ensures ∙ c.requires.seating.proposers)
 
 pub start-requires-2-clause-order : goal.start-requires-2-clause-order
 start-requires-2-clause-order c = rw (sym (count c), c.in_ok-order.ensures.copied, c.order.ensures.order) (each_once_is_order c.order.ensures.instance.order)

@@ -9,7 +9,7 @@ use Rattle.sm_answer_pairs.proofs.pairs.find_pairs.Goals as goal
 
 pub push_pairs-requires-clause-from_one : goal.push_pairs-requires-clause-from_one
 push_pairs-requires-clause-from_one c =
-    let stable = levels_of_seats c.args.seats.now _ _ _ c.in_ok-basis.ensures (ap rows_of c.deref.ensures.value ∙ c.in_ok-levels.ensures) c.in_ok-rows.ensures in
+    let stable = levels_of_seats c.args.seats.now _ _ _ c.in_ok-poset.ensures (ap rows_of c.deref.ensures.value ∙ c.in_ok-levels.ensures) c.in_ok-rows.ensures in
     let p = c.loop-p.p in
     let many = length-map c.in_ok-rows.rows.items (λ (v : Vec ℕ Global). v.items) in
     let here = row_read c.in_ok-rows.rows.items p c.index.result.now c.deref-in-loop-p.result.now (let each = stable.one_each in omega (arith, each, many)) c.index.ensures c.deref-in-loop-p.ensures.value in
@@ -17,7 +17,7 @@ push_pairs-requires-clause-from_one c =
 
 pub loop-p-preserved : goal.loop-p-preserved
 loop-p-preserved c =
-    let stable = levels_of_seats c.args.seats.now _ _ _ c.in_ok-basis.ensures (ap rows_of c.deref.ensures.value ∙ c.in_ok-levels.ensures) c.in_ok-rows.ensures in
+    let stable = levels_of_seats c.args.seats.now _ _ _ c.in_ok-poset.ensures (ap rows_of c.deref.ensures.value ∙ c.in_ok-levels.ensures) c.in_ok-rows.ensures in
     let p = c.loop-p.p in
     let many = length-map c.in_ok-rows.rows.items (λ (v : Vec ℕ Global). v.items) in
     let here = row_read c.in_ok-rows.rows.items p c.index.result.now c.deref-in-loop-p.result.now (let each = stable.one_each in omega (arith, each, many)) c.index.ensures c.deref-in-loop-p.ensures.value in
@@ -26,6 +26,6 @@ loop-p-preserved c =
 
 pub returns : goal.returns
 returns c =
-    let stable = levels_of_seats c.args.seats.now _ _ _ c.in_ok-basis.ensures (ap rows_of c.deref.ensures.value ∙ c.in_ok-levels.ensures) c.in_ok-rows.ensures in
+    let stable = levels_of_seats c.args.seats.now _ _ _ c.in_ok-poset.ensures (ap rows_of c.deref.ensures.value ∙ c.in_ok-levels.ensures) c.in_ok-rows.ensures in
     let whole : c.loop-p.p ≡ length c.args.instance.now.proposers = omega arith in
     rw (c.loop-p.invariant, whole) (pairs_right c.requires.seating stable)

@@ -16,7 +16,7 @@ invariant_of-result-2 c =
     let first = c.chain-chain.result.now.first in
     let values = c.deref.result.now in
     let vectors = c.all_needs-needs.result.now in
-    let x = are_shown c.args.found.now.basis.poset s.market first (rotations_of values) (rows_of vectors) (c.requires.found.market ∙ sym (ap (λ (t : Seating). t.market) c.requires.seats)) c.chain-chain.ensures.first
+    let x = are_shown c.args.found.now.poset s.market first (rotations_of values) (rows_of vectors) (c.requires.found.market ∙ sym (ap (λ (t : Seating). t.market) c.requires.seats)) c.chain-chain.ensures.first
     (ap rotations_of c.deref.ensures.value ∙ c.chain-chain.ensures.rotations) c.chain-chain.ensures.poset c.all_needs-needs.ensures in
     record {
       few = values_few s.market first.places values (rows_of vectors) x;
@@ -37,7 +37,7 @@ returns-clause-right c texts stable =
     let first = c.chain-chain.result.now.first in
     let rotations = rotations_of c.deref.result.now in
     let needs = rows_of c.all_needs-needs.result.now in
-    let x = are_shown c.args.found.now.basis.poset s.market first rotations needs (c.requires.found.market ∙ sym (ap (λ (t : Seating). t.market) c.requires.seats)) c.chain-chain.ensures.first
+    let x = are_shown c.args.found.now.poset s.market first rotations needs (c.requires.found.market ∙ sym (ap (λ (t : Seating). t.market) c.requires.seats)) c.chain-chain.ensures.first
     (ap rotations_of c.deref.ensures.value ∙ c.chain-chain.ensures.rotations) c.chain-chain.ensures.poset c.all_needs-needs.ensures in
     let route = route_found first rotations c.deref-2.result.now c.requires.found c.chain-chain.ensures.first (ap rotations_of c.deref.ensures.value ∙ c.chain-chain.ensures.rotations) c.deref-2.ensures.value in
     given_right _ _ _ (route_given w c.args.given.now.left.places.items c.args.given.now.right.places.items s first.places rotations needs c.deref-2.result.now)
@@ -51,7 +51,7 @@ returns-clause-some c =
     let first = c.chain-chain.result.now.first in
     let rotations = rotations_of c.deref.result.now in
     let needs = rows_of c.all_needs-needs.result.now in
-    let x = are_shown c.args.found.now.basis.poset s.market first rotations needs (c.requires.found.market ∙ sym (ap (λ (t : Seating). t.market) c.requires.seats)) c.chain-chain.ensures.first
+    let x = are_shown c.args.found.now.poset s.market first rotations needs (c.requires.found.market ∙ sym (ap (λ (t : Seating). t.market) c.requires.seats)) c.chain-chain.ensures.first
     (ap rotations_of c.deref.ensures.value ∙ c.chain-chain.ensures.rotations) c.chain-chain.ensures.poset c.all_needs-needs.ensures in
     let r = c.requires.found.route in
     let numbered : All IsStepNumbered c.deref-2.result.now = rw c.deref-2.ensures.value (steps_numbered r.from r.to _ _ c.chain-chain.ensures.poset.few r.between) in

@@ -6,7 +6,7 @@ use Rattle.sm_theory.specs.Values.{rotations_of}
 use Rattle.sm_rotations.specs.declared.order.ChainWithNeeds.{ChainWithNeeds}
 use Rattle.sm_rotations.proofs.CountLemmas.{few_rotations}
 use Rattle.sm_answer_rotations.specs.Found.{AreRotationsOf}
-use Rattle.sm_answer_rotations.proofs.basis.find_rotations.Goals as goal
+use Rattle.sm_answer_rotations.proofs.finding.find_rotations.Goals as goal
 use Rattle.sm_rotations.proofs.NeedsLemmas.{as_many}
 
 pub returns : goal.returns
