@@ -4,7 +4,7 @@ use Rattle.std.specs.Int.RustNames.{unsigned_abs, FitsSigned}
 use Rattle.std.specs.List.{list_all, zip}
 use Rattle.std.proofs.lemmas.Slice.Zip.{length-zip, get_or-zip}
 use Rattle.std.specs.declared.alloc.AllocError.{AllocError}
-use Rattle.std.proofs.lemmas.List.{take_all, map_more, get_or_default, get_or-map, length-map}
+use Rattle.std.proofs.lemmas.List.{take_all, map_more, get_or_default, length-map}
 use Rattle.std.proofs.lemmas.Str.{IsUtf8-from_ascii}
 use Rattle.sm_text.specs.Limits.{most_weight}
 use Rattle.sm_text.specs.Name.{begins_name, is_digit, is_letter, is_name, is_name_byte}
@@ -15,7 +15,7 @@ use Rattle.serde_json.specs.Find.{of_integer}
 use Rattle.serde_json.specs.View.{view, items_of}
 use Rattle.serde_json.specs.declared.value.Value.{Value, Array}
 use Rattle.serde_json.proofs.Views.{view-Array}
-use Rattle.sm_agents.specs.Written.{AgentData, Written, no_agent, agent_at, weighed}
+use Rattle.sm_agents.specs.Written.{AgentData, Written, weighed}
 use Rattle.sm_agents.specs.Vectors.{agent_of, agents_of}
 use Rattle.sm_agents.specs.declared.agents.Agent.{Agent}
 use Rattle.sm_agents.specs.Sound.{IsInstance, AreSoundAgents, AreSoundEntries, IsPairOf}
@@ -91,28 +91,34 @@ ascii_name (b ∷ s) h (suc i) = ascii_name s (second_true (is_name_byte b) (lis
 pub name_utf8 : (s : List ℕ) → is_name s ≡ true → IsUtf8 s
 name_utf8 s h = IsUtf8-from_ascii s (ascii_name s (name_bytes s h))
 
--- the members of an instance, put one after another, stand in the order of their names
+-- members put one after another
+abbrev pub put_all : Members → Members → Members
+put_all no_members found = found
+put_all (member k d ms) found = put_all ms (put k d found)
+
+-- the members of an instance stand in the order of their names, whether they are put from the last or from the first
 pub members_ordered : (kind left right : Data) (weights : List SaidWeight) (forced forbidden : List SaidPair) (order : Option SaidOrder)
-    → put_if (codes "forbidden") pair_json forbidden (put_if (codes "forced") pair_json forced (put_order order
-    (put (codes "kind") kind (put (codes "proposers") left (put (codes "reviewers") right (put_if (codes "weights") weight_json weights no_members))))))
-    ≡ unless_empty (codes "forbidden") pair_json forbidden (unless_empty (codes "forced") pair_json forced
-    (member (codes "kind") kind (with_order order (member (codes "proposers") left (member (codes "reviewers") right (unless_empty (codes "weights") weight_json weights no_members))))))
-members_ordered kind left right [] [] [] None = refl
-members_ordered kind left right [] [] [] (Some o) = refl
-members_ordered kind left right [] [] (z ∷ zs) None = refl
-members_ordered kind left right [] [] (z ∷ zs) (Some o) = refl
-members_ordered kind left right [] (y ∷ ys) [] None = refl
-members_ordered kind left right [] (y ∷ ys) [] (Some o) = refl
-members_ordered kind left right [] (y ∷ ys) (z ∷ zs) None = refl
-members_ordered kind left right [] (y ∷ ys) (z ∷ zs) (Some o) = refl
-members_ordered kind left right (x ∷ xs) [] [] None = refl
-members_ordered kind left right (x ∷ xs) [] [] (Some o) = refl
-members_ordered kind left right (x ∷ xs) [] (z ∷ zs) None = refl
-members_ordered kind left right (x ∷ xs) [] (z ∷ zs) (Some o) = refl
-members_ordered kind left right (x ∷ xs) (y ∷ ys) [] None = refl
-members_ordered kind left right (x ∷ xs) (y ∷ ys) [] (Some o) = refl
-members_ordered kind left right (x ∷ xs) (y ∷ ys) (z ∷ zs) None = refl
-members_ordered kind left right (x ∷ xs) (y ∷ ys) (z ∷ zs) (Some o) = refl
+    → let ms : Members = unless_empty (codes "forbidden") pair_json forbidden (unless_empty (codes "forced") pair_json forced
+    (member (codes "kind") kind (with_order order (member (codes "proposers") left (member (codes "reviewers") right (unless_empty (codes "weights") weight_json weights no_members)))))) in
+    (put_if (codes "forbidden") pair_json forbidden (put_if (codes "forced") pair_json forced (put_order order
+    (put (codes "kind") kind (put (codes "proposers") left (put (codes "reviewers") right (put_if (codes "weights") weight_json weights no_members)))))) ≡ ms)
+    × (put_all ms no_members ≡ ms)
+members_ordered kind left right [] [] [] None = (refl, refl)
+members_ordered kind left right [] [] [] (Some o) = (refl, refl)
+members_ordered kind left right [] [] (z ∷ zs) None = (refl, refl)
+members_ordered kind left right [] [] (z ∷ zs) (Some o) = (refl, refl)
+members_ordered kind left right [] (y ∷ ys) [] None = (refl, refl)
+members_ordered kind left right [] (y ∷ ys) [] (Some o) = (refl, refl)
+members_ordered kind left right [] (y ∷ ys) (z ∷ zs) None = (refl, refl)
+members_ordered kind left right [] (y ∷ ys) (z ∷ zs) (Some o) = (refl, refl)
+members_ordered kind left right (x ∷ xs) [] [] None = (refl, refl)
+members_ordered kind left right (x ∷ xs) [] [] (Some o) = (refl, refl)
+members_ordered kind left right (x ∷ xs) [] (z ∷ zs) None = (refl, refl)
+members_ordered kind left right (x ∷ xs) [] (z ∷ zs) (Some o) = (refl, refl)
+members_ordered kind left right (x ∷ xs) (y ∷ ys) [] None = (refl, refl)
+members_ordered kind left right (x ∷ xs) (y ∷ ys) [] (Some o) = (refl, refl)
+members_ordered kind left right (x ∷ xs) (y ∷ ys) (z ∷ zs) None = (refl, refl)
+members_ordered kind left right (x ∷ xs) (y ∷ ys) (z ∷ zs) (Some o) = (refl, refl)
 
 -- agents of an instance have names, and list agents
 pub named : (agents : List AgentData) (single : Bool) → AreSoundAgents agents single → AreNamed agents
@@ -173,7 +179,7 @@ conditions_are_put kind lefts rights weights forced forbidden order ms e =
     ap (λ m. object (conditions_put lefts rights forced forbidden m)) e
     ∙ ap object (members_ordered (string (kind_name kind)) (array_of (agent_json false) (map (said_agent rights) lefts))
     (array_of (agent_json (has_capacities kind)) (map (said_agent lefts) rights))
-    (map (said_weight lefts rights) weights) (map (said_pair lefts rights) forced) (map (said_pair lefts rights) forbidden) order)
+    (map (said_weight lefts rights) weights) (map (said_pair lefts rights) forced) (map (said_pair lefts rights) forbidden) order).0
 
 -- as many seconds as weights
 pub zip_long : {A B : Type 0} (xs : List A) (zs : List B) → length zs ≡ length xs → length (zip xs zs) ≡ length xs

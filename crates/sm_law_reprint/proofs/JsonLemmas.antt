@@ -29,7 +29,7 @@ use Rattle.sm_json.specs.JsonText.{json_text, text_in}
 use Rattle.sm_json.specs.Parts.{has_capacities}
 use Rattle.sm_json.specs.Making.{array_of, agent_json, pair_json, weight_json, order_json, with_order, unless_empty, two_json, room_json, said_json, json_of}
 use Rattle.sm_json.proofs.DepthLemmas.{few_levels}
-use Rattle.sm_json.proofs.MakeLemmas.{name_utf8}
+use Rattle.sm_json.proofs.MakeLemmas.{name_utf8, members_ordered}
 use Rattle.sm_json.proofs.ReadLemmas.{value_found}
 use Rattle.sm_json.proofs.SoundLemmas.{printed_again}
 use Rattle.sm_law_reprint.specs.Reading.{printed_text, JsonIsRead}
@@ -38,7 +38,7 @@ use Rattle.sm_law_reprint.proofs.InputLemmas.{two_good, room_good}
 use Rattle.sm_law_reprint.proofs.PairLemmas.{HasNames, IsOwnWeight}
 use Rattle.sm_law_reprint.proofs.ReadLemmas.{IsOwnOrder, IsPrintable}
 use Rattle.sm_law_reprint.proofs.ReprintLemmas.{printed_is_read}
-use Rattle.sm_law_reprint.proofs.ValueLemmas.{IsRead, AreRead, AreMembersRead, put_all, compact_read, none_read, more_read, array_read, array_of_read, no_members_read, member_read, object_read, string_read, count_read}
+use Rattle.sm_law_reprint.proofs.ValueLemmas.{IsRead, AreRead, AreMembersRead, compact_read, none_read, more_read, array_read, array_of_read, no_members_read, member_read, object_read, string_read, count_read}
 
 -- names and whole numbers
 name_read : (name : List ℕ) → is_name name ≡ true → IsRead (string name)
@@ -96,27 +96,6 @@ order_read : (order : Option SaidOrder) → IfSome order IsOwnOrder → (ms : Me
 order_read None own ms are = are
 order_read (Some order) own ms are = member_read (codes "order") (order_json order) ms (IsUtf8-are_ascii _ refl) (names_read order.names own.names) are
 
--- the members of an instance stand in the order of their names
-in_order : (kind left right : Data) (weights : List SaidWeight) (forced forbidden : List SaidPair) (order : Option SaidOrder)
-    → let ms : Members = unless_empty (codes "forbidden") pair_json forbidden (unless_empty (codes "forced") pair_json forced (member (codes "kind") kind (with_order order (member (codes "proposers") left (member (codes "reviewers") right (unless_empty (codes "weights") weight_json weights no_members)))))) in
-    put_all ms no_members ≡ ms
-in_order kind left right [] [] [] None = refl
-in_order kind left right [] [] [] (Some o) = refl
-in_order kind left right [] [] (z ∷ zs) None = refl
-in_order kind left right [] [] (z ∷ zs) (Some o) = refl
-in_order kind left right [] (y ∷ ys) [] None = refl
-in_order kind left right [] (y ∷ ys) [] (Some o) = refl
-in_order kind left right [] (y ∷ ys) (z ∷ zs) None = refl
-in_order kind left right [] (y ∷ ys) (z ∷ zs) (Some o) = refl
-in_order kind left right (x ∷ xs) [] [] None = refl
-in_order kind left right (x ∷ xs) [] [] (Some o) = refl
-in_order kind left right (x ∷ xs) [] (z ∷ zs) None = refl
-in_order kind left right (x ∷ xs) [] (z ∷ zs) (Some o) = refl
-in_order kind left right (x ∷ xs) (y ∷ ys) [] None = refl
-in_order kind left right (x ∷ xs) (y ∷ ys) [] (Some o) = refl
-in_order kind left right (x ∷ xs) (y ∷ ys) (z ∷ zs) None = refl
-in_order kind left right (x ∷ xs) (y ∷ ys) (z ∷ zs) (Some o) = refl
-
 kind_utf8 : (kind : Kind) → IsUtf8 (kind_name kind)
 kind_utf8 Marriage = IsUtf8-are_ascii _ refl
 kind_utf8 Hospitals = IsUtf8-are_ascii _ refl
@@ -133,7 +112,7 @@ two_value_read kind said good = object_read _
     (member_read (codes "reviewers") _ _ (IsUtf8-are_ascii _ refl)
     (array_of_read (IsOwn (is_single kind)) (agent_json (has_capacities kind)) (agent_read (has_capacities kind) (is_single kind)) said.reviewers good.reviewers.own)
     (unless_read (codes "weights") weight_json IsOwnWeight (IsUtf8-are_ascii _ refl) weight_read said.weights good.weights.own no_members no_members_read)))))))
-    (in_order _ _ _ said.weights said.forced said.forbidden said.order)
+    (members_ordered (string (kind_name kind)) (array_of (agent_json false) said.proposers) (array_of (agent_json (has_capacities kind)) said.reviewers) said.weights said.forced said.forbidden said.order).1
 
 room_value_read : (said : Said) → IsPrintable Roommates said → IsRead (room_json said)
 room_value_read said good = object_read _

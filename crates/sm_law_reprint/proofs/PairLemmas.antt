@@ -12,7 +12,8 @@ use Rattle.sm_text.specs.Tokens.{tokens}
 use Rattle.sm_agents.specs.declared.kinds.Kind.{Kind}
 use Rattle.sm_agents.specs.declared.kinds.Kind.TheVariants.{Roommates}
 use Rattle.sm_agents.specs.Named.{SaidAgent, SaidPair, SaidWeight, Said, nothing, is_given_to}
-use Rattle.sm_reader.specs.Judging.{goes, verdict_on}
+use Rattle.sm_forms.specs.declared.forms.Condition.TheVariants.{Force, Forbid}
+use Rattle.sm_reader.specs.Judging.{said_with, goes, verdict_on}
 use Rattle.sm_keys.proofs.TextLemmas.{equal_text}
 use Rattle.sm_report.proofs.DecimalLemmas.{first_true, second_true, signed_of-decimal}
 use Rattle.sm_agents.proofs.NonzeroLemmas.{zero_is}
@@ -21,7 +22,7 @@ use Rattle.sm_agents.specs.Nonzero.{is_zero}
 use Rattle.sm_instance_lines.specs.Printed.{pair_text, weight_line, force_line, forbid_line}
 use Rattle.sm_law_reprint.proofs.CutLemmas.{tokens-run, tokens-run_alone, tokens-blank, no_run}
 use Rattle.sm_law_reprint.proofs.LineLemmas.{words_cut, tokens-pair, signed_is_run, begins_run-run, HasNoEnds, both_free, name_free, run_free, words_free}
-use Rattle.sm_law_reprint.proofs.VerdictLemmas.{weight_goes, second_goes, force_goes, forbid_goes}
+use Rattle.sm_law_reprint.proofs.VerdictLemmas.{weight_goes, second_goes, pair_goes}
 use Rattle.sm_law_reprint.proofs.AgentLemmas.{fresh_in}
 
 -- A pair has two names.
@@ -160,16 +161,18 @@ module _ (proposers reviewers : List SaidAgent) where
     module _ (kind : Kind) (format : ℕ) (two : kind ≢ Roommates) (done : List SaidPair) (pair : SaidPair) (names : HasNames pair) where
       -- the line of the next forced pair goes on, and adds it
       pub force_step : (n : ℕ) → verdict_on kind format (with_forced done) n (tokens (force_line pair)) ≡ goes (with_forced (done ++ pair_on_line n pair ∷ []))
+      unfolding said_with
       force_step n =
           ap (verdict_on kind format (with_forced done) n) ((words_cut (pair_text pair)).3 ∙ ap (λ t. codes "force" ∷ t) (two_cut pair names))
-          ∙ force_goes (with_forced done) pair.proposer pair.reviewer names.proposer names.reviewer kind format n two
+          ∙ pair_goes (with_forced done) pair.proposer pair.reviewer names.proposer names.reviewer Force kind format n two
 
       -- the line of the next forbidden pair goes on, and adds it
       pub forbid_step : (forced : List SaidPair) (n : ℕ)
           → verdict_on kind format (with_forbidden forced done) n (tokens (forbid_line pair)) ≡ goes (with_forbidden forced (done ++ pair_on_line n pair ∷ []))
+      unfolding said_with
       forbid_step forced n =
           ap (verdict_on kind format (with_forbidden forced done) n) ((words_cut (pair_text pair)).4 ∙ ap (λ t. codes "forbid" ∷ t) (two_cut pair names))
-          ∙ forbid_goes (with_forbidden forced done) pair.proposer pair.reviewer names.proposer names.reviewer kind format n two
+          ∙ pair_goes (with_forbidden forced done) pair.proposer pair.reviewer names.proposer names.reviewer Forbid kind format n two
 
 -- the line of a forced pair holds neither LF nor CR
 pub force_free : (pair : SaidPair) → HasNames pair → HasNoEnds (force_line pair)

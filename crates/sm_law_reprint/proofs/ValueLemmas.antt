@@ -20,6 +20,7 @@ use Rattle.serde_json.specs.Written.{outline, items_outline, members_outline, co
 use Rattle.serde_json.proofs.Numbers.{number_of-decimal}
 use Rattle.serde_json.proofs.Texts.{print-outline}
 use Rattle.sm_json.specs.Making.{array_of}
+use Rattle.sm_json.proofs.MakeLemmas.{put_all}
 
 -- the outline of a value nests as deep as the value
 mutual
@@ -49,11 +50,6 @@ pub record AreRead (ds : Items) : Type 0 where
   pub again : of_items (items_outline ds) ≡ Some ds
   pub numbers : ItemsHaveNumbers (items_outline ds)
   pub utf8 : (later : Bool) → IsUtf8 (items_text later ds)
-
--- members put one after another
-abbrev pub put_all : Members → Members → Members
-put_all no_members found = found
-put_all (member k d ms) found = put_all ms (put k d found)
 
 pub record AreMembersRead (ms : Members) : Type 0 where
   pub again : (found : Members) → of_members (members_outline ms) found ≡ Some (put_all ms found)

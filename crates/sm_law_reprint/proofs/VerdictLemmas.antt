@@ -1,5 +1,5 @@
 -- Verdicts on printed lines.
-use Rattle.std.proofs.Common.{◌≡◌, ◌≢◌, ℕ, ◌+◌, ◌&&◌, ◌||◌, Bool, true, false, not, cond, eqb, if◌then◌else◌, List, [], ◌∷◌, ◌++◌, length, codes, nat_le, nat_lt, Option, Some, None, is_none, is_some, refl, ap, ◌∙◌, ℤ, pos}
+use Rattle.std.proofs.Common.{◌≡◌, ◌≢◌, ℕ, ◌+◌, ◌&&◌, ◌||◌, Bool, true, false, not, cond, eqb, if◌then◌else◌, List, [], ◌∷◌, ◌++◌, length, codes, nat_le, nat_lt, Option, Some, None, is_none, refl, ap, ◌∙◌, ℤ, pos}
 use Rattle.std.specs.List.{list_all, list_any}
 use Rattle.std.specs.Option.{option_or}
 use Rattle.std.specs.Str.{bytes_eq}
@@ -14,9 +14,11 @@ use Rattle.sm_agents.specs.declared.kinds.Kind.TheVariants.{Marriage, Hospitals,
 use Rattle.sm_agents.specs.declared.kinds.Side.{Side}
 use Rattle.sm_agents.specs.declared.kinds.Side.TheVariants.{Proposers, Reviewers}
 use Rattle.sm_agents.specs.Named.{SaidPair, SaidWeight, Said, names_of, agents_on, all_entries, is_given_to}
-use Rattle.sm_forms.specs.Forms.{Form, declares, orders, weighs, list_form, capacity_form, weight_form, pair_form, reviewer_form, two_sided_form, form_behind, order_form, second_form, two_sided_added_form, added_form, form_under, is_end, header_of}
+use Rattle.sm_forms.specs.declared.forms.Condition.{Condition}
+use Rattle.sm_forms.specs.declared.forms.Condition.TheVariants.{Force, Forbid}
+use Rattle.sm_forms.specs.Forms.{Form, declares, orders, weighs, binds, list_form, capacity_form, weight_form, pair_form, reviewer_form, two_sided_form, form_behind, order_form, second_form, two_sided_added_form, added_form, form_under, is_end, header_of}
 use Rattle.sm_keys.specs.Tokens.{is_bad}
-use Rattle.sm_reader.specs.Judging.{goes, stops, of_form, heads, heading_of, verdict_on, first_fault, fault_of, said_with, is_bad_capacity, weight_in, second_in}
+use Rattle.sm_reader.specs.Judging.{goes, stops, heads, heading_of, verdict_on, first_fault, fault_of, said_with, is_bad_capacity, weight_in, second_in}
 use Rattle.sm_keys.specs.Tables.{has_repeated}
 use Rattle.sm_forms.proofs.NameLemmas.{names_begin, name_begins}
 use Rattle.sm_report.proofs.DecimalLemmas.{first_true}
@@ -44,18 +46,6 @@ goes_with : (kind : Kind) (format : ℕ) (said : Said) (n : ℕ) (word : List �
     → form_behind kind word rest ≡ Some form → fault_of said form ≡ None → verdict_on kind format said n (word ∷ rest) ≡ goes (said_with said n form)
 goes_with kind format said n word rest form good more formed none = goes_under kind format said n word rest form good more (under_either kind format word rest form formed) none
 
--- a line of a form of format 1 is judged by that form under either header
-verdict_is : (kind : Kind) (format : ℕ) (said : Said) (n : ℕ) (word : List ℕ) (rest : List (List ℕ)) → list_any is_bad (word ∷ rest) ≡ false → is_end (word ∷ rest) ≡ false
-    → is_some (form_behind kind word rest) ≡ true → verdict_on kind format said n (word ∷ rest) ≡ of_form said n (form_behind kind word rest)
-unfolding verdict_on form_under
-verdict_is kind format said n word rest good more formed =
-    rw (good, more) (ap (of_form said n) (same (eqb format 2) (form_behind kind word rest) (added_form kind word rest) formed))
-  where
-    same : (t : Bool) (o x : Option Form) → is_some o ≡ true → cond t (option_or o x) o ≡ o
-    same true (Some form) x h = refl
-    same true None x h = absurd cc
-    same false o x h = refl
-
 -- No token is bad.
 
 runs_good : (ts : List (List ℕ)) → list_all begins_run ts ≡ true → list_any is_bad ts ≡ false
@@ -78,6 +68,15 @@ words_good : (is_bad (codes "p") ≡ false) × (is_bad (codes "r") ≡ false) ×
     × (is_bad (codes "order") ≡ false)
 unfolding is_bad is_mark begins_name is_name_byte
 words_good = (refl, refl, refl, refl, refl, refl)
+
+-- the word that asks something of a pair
+abbrev pub asking : Condition → List ℕ
+asking Force = codes "force"
+asking Forbid = codes "forbid"
+
+asking_good : (condition : Condition) → is_bad (asking condition) ≡ false
+asking_good Force = words_good.3
+asking_good Forbid = words_good.4
 
 no_end : (word name : List ℕ) (rest : List (List ℕ)) → is_end (word ∷ name ∷ rest) ≡ false
 unfolding is_end
@@ -179,32 +178,29 @@ module _ (said : Said) (proposer reviewer : List ℕ) (first : is_name proposer 
   abbrev pair_on : ℕ → SaidPair
   pair_on n = record { proposer = proposer; reviewer = reviewer; line = n }
 
-  -- what is asked of a pair
-  force_formed : (kind : Kind) → kind ≢ Roommates → begins_run proposer ≡ true → begins_run reviewer ≡ true → is_some (form_behind kind (codes "force") (proposer ∷ reviewer ∷ [])) ≡ true
+  pair_formed : (condition : Condition) (kind : Kind) → kind ≢ Roommates → begins_run proposer ≡ true → begins_run reviewer ≡ true → form_behind kind (asking condition) (proposer ∷ reviewer ∷ []) ≡ Some (binds condition proposer reviewer)
   unfolding form_behind two_sided_form pair_form
-  force_formed Marriage two a b = rw (a, b) refl
-  force_formed Hospitals two a b = rw (a, b) refl
-  force_formed Roommates two a b = absurd (two refl)
+  pair_formed Force Marriage two a b = rw (a, b) refl
+  pair_formed Force Hospitals two a b = rw (a, b) refl
+  pair_formed Forbid Marriage two a b = rw (a, b) refl
+  pair_formed Forbid Hospitals two a b = rw (a, b) refl
+  pair_formed condition Roommates two a b = absurd (two refl)
 
-  force_of : (kind : Kind) (n : ℕ) → kind ≢ Roommates → begins_run proposer ≡ true → begins_run reviewer ≡ true
-      → of_form said n (form_behind kind (codes "force") (proposer ∷ reviewer ∷ [])) ≡ goes (record said { forced = said.forced ++ pair_on n ∷ [] })
-  unfolding form_behind two_sided_form pair_form fault_of said_with
-  force_of Marriage n two a b = rw (a, b, first, second) refl
-  force_of Hospitals n two a b = rw (a, b, first, second) refl
-  force_of Roommates n two a b = absurd (two refl)
+  pair_faultless : (condition : Condition) → fault_of said (binds condition proposer reviewer) ≡ None
+  unfolding fault_of
+  pair_faultless condition = rw (first, second) refl
 
-  forbid_formed : (kind : Kind) → kind ≢ Roommates → begins_run proposer ≡ true → begins_run reviewer ≡ true → is_some (form_behind kind (codes "forbid") (proposer ∷ reviewer ∷ [])) ≡ true
-  unfolding form_behind two_sided_form pair_form
-  forbid_formed Marriage two a b = rw (a, b) refl
-  forbid_formed Hospitals two a b = rw (a, b) refl
-  forbid_formed Roommates two a b = absurd (two refl)
-
-  forbid_of : (kind : Kind) (n : ℕ) → kind ≢ Roommates → begins_run proposer ≡ true → begins_run reviewer ≡ true
-      → of_form said n (form_behind kind (codes "forbid") (proposer ∷ reviewer ∷ [])) ≡ goes (record said { forbidden = said.forbidden ++ pair_on n ∷ [] })
-  unfolding form_behind two_sided_form pair_form fault_of said_with
-  forbid_of Marriage n two a b = rw (a, b, first, second) refl
-  forbid_of Hospitals n two a b = rw (a, b, first, second) refl
-  forbid_of Roommates n two a b = absurd (two refl)
+  -- the line of a pair of which something is asked goes on, and adds it
+  pub pair_goes : (condition : Condition) (kind : Kind) (format n : ℕ) → kind ≢ Roommates
+      → verdict_on kind format said n (asking condition ∷ proposer ∷ reviewer ∷ []) ≡ goes (said_with said n (binds condition proposer reviewer))
+  pair_goes condition kind format n two =
+      let a = name_begins proposer first in
+      let b = name_begins reviewer second in
+      let w = asking_good condition in
+      let c = run_no_bad proposer a in
+      let d = run_no_bad reviewer b in
+      goes_with kind format said n (asking condition) (proposer ∷ reviewer ∷ []) (binds condition proposer reviewer) (rw (w, c, d) refl)
+      (no_end (asking condition) proposer (reviewer ∷ [])) (pair_formed condition kind two a b) (pair_faultless condition)
 
   -- its weights
   module _ (run : List ℕ) (weight : ℤ) (begin : begins_run run ≡ true) (spelt : weight_in run ≡ Some weight) (fresh : list_any (is_given_to proposer reviewer) said.weights ≡ false) where
@@ -264,28 +260,6 @@ module _ (said : Said) (proposer reviewer : List ℕ) (first : is_name proposer 
         goes_under kind 2 said n (codes "weight") (proposer ∷ reviewer ∷ run ∷ further ∷ []) (weighs proposer reviewer run (Some further)) (rw (w, c, d, e, f) refl)
         (no_end (codes "weight") proposer (reviewer ∷ run ∷ further ∷ [])) (second_formed kind further two a b begins) (weight_faultless (Some further) (ap is_none is))
         ∙ ap (λ s. goes s) (weight_said n (Some further) other is)
-
-  -- the line of a forced pair goes on, and adds it
-  pub force_goes : (kind : Kind) (format n : ℕ) → kind ≢ Roommates
-      → verdict_on kind format said n (codes "force" ∷ proposer ∷ reviewer ∷ []) ≡ goes (record said { forced = said.forced ++ pair_on n ∷ [] })
-  force_goes kind format n two =
-      let a = name_begins proposer first in
-      let b = name_begins reviewer second in
-      let w = words_good.3 in
-      let c = run_no_bad proposer a in
-      let d = run_no_bad reviewer b in
-      verdict_is kind format said n (codes "force") (proposer ∷ reviewer ∷ []) (rw (w, c, d) refl) (no_end (codes "force") proposer (reviewer ∷ [])) (force_formed kind two a b) ∙ force_of kind n two a b
-
-  -- the line of a forbidden pair goes on, and adds it
-  pub forbid_goes : (kind : Kind) (format n : ℕ) → kind ≢ Roommates
-      → verdict_on kind format said n (codes "forbid" ∷ proposer ∷ reviewer ∷ []) ≡ goes (record said { forbidden = said.forbidden ++ pair_on n ∷ [] })
-  forbid_goes kind format n two =
-      let a = name_begins proposer first in
-      let b = name_begins reviewer second in
-      let w = words_good.4 in
-      let c = run_no_bad proposer a in
-      let d = run_no_bad reviewer b in
-      verdict_is kind format said n (codes "forbid") (proposer ∷ reviewer ∷ []) (rw (w, c, d) refl) (no_end (codes "forbid") proposer (reviewer ∷ [])) (forbid_formed kind two a b) ∙ forbid_of kind n two a b
 
 -- The verdict on an order.
 
