@@ -40,12 +40,13 @@ use Rattle.sm_law_agree.proofs.ListAgree.{list_agrees}
 use Rattle.sm_law_agree.proofs.RegretAgree.{regret_agrees}
 use Rattle.sm_law_agree.proofs.WeightAgree.{weight_agrees}
 use Rattle.sm_law_agree.proofs.ChosenAgree.{meet_agrees, join_agrees}
-use Rattle.sm_top.specs.declared.status.Status.{Status}
-use Rattle.sm_top.specs.declared.status.Status.TheVariants.{Done, NoneExists}
-use Rattle.sm_top.specs.Accepting.{accepted, behind_text, first_refusal, after_end, wrong_kind, too_many_in, too_many_seats}
+use Rattle.sm_serve.specs.declared.status.Status.{Status}
+use Rattle.sm_serve.specs.declared.status.Status.TheVariants.{Done, NoneExists}
+use Rattle.sm_top.specs.Accepting.{accepted, behind_text, after_end, wrong_kind, too_many_seats}
+use Rattle.sm_serve.specs.Refusals.{first_refusal, too_many_in}
 use Rattle.sm_top.specs.Checked.{verdict_lines}
 use Rattle.sm_top.specs.Outcome.{OfTwo, IsSolved, IsAnyList, IsRegretted, IsWeighed, IsAnswerOver, IsAnswer}
-use Rattle.sm_top.proofs.RunLemmas.{too_long_text}
+use Rattle.sm_serve.proofs.RunLemmas.{too_long_text}
 use Rattle.sm_law_round.specs.Round.{IsInstanceText, IsListTaken, WrittenIsChecked}
 use Rattle.sm_law_round.proofs.BehindLemmas.{read_more, answer_behind}
 

@@ -12,8 +12,8 @@ use Rattle.sm_answer.specs.Writing.{text_of}
 use Rattle.sm_tally.specs.Fold.{Shown}
 use Rattle.sm_words.specs.Jobs.{JobData, Solve, Reduced, Rotations, Regret, Weight, Meet, Join}
 use Rattle.sm_check_clauses.specs.declared.verdicts.Verdict.TheVariants as verdict
-use Rattle.sm_top.specs.declared.status.Status.{Status}
-use Rattle.sm_top.specs.declared.status.Status.TheVariants.{Done}
+use Rattle.sm_serve.specs.declared.status.Status.{Status}
+use Rattle.sm_serve.specs.declared.status.Status.TheVariants.{Done}
 use Rattle.sm_top.specs.Checked.{verdict_lines}
 use Rattle.sm_top.specs.Outcome.{IsAnswer}
 

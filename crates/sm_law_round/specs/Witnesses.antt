@@ -10,7 +10,7 @@ use Rattle.sm_tally.specs.Fold.{Shown}
 use Rattle.sm_words.specs.Jobs.{JobData, Solve, Weight, Meet}
 use Rattle.sm_law_agree.specs.Witnesses.{one_pair, given_twice, weighed_three}
 use Rattle.sm_answer_weight.specs.Witnesses.{worked_answer}
-use Rattle.sm_top.specs.declared.status.Status.TheVariants.{Done}
+use Rattle.sm_serve.specs.declared.status.Status.TheVariants.{Done}
 use Rattle.sm_top.specs.Outcome.{IsAnswer}
 use Rattle.sm_law_round.specs.Round.{IsInstanceText, IsCheckable}
 

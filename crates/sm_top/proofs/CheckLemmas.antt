@@ -21,15 +21,16 @@ use Rattle.sm_check_clauses.specs.declared.verdicts.Verdict.{Verdict}
 use Rattle.sm_tally.specs.Fold.{Shown}
 use Rattle.sm_words.specs.declared.jobs.Form.{Form}
 use Rattle.sm_words.specs.Jobs.{JobData, Check}
-use Rattle.sm_top.specs.declared.status.Status.{Status}
-use Rattle.sm_top.specs.Texts.{plain_refusal}
+use Rattle.sm_serve.specs.declared.status.Status.{Status}
+use Rattle.sm_serve.specs.Texts.{plain_refusal}
 use Rattle.sm_words.specs.Takes.{judges_answer}
-use Rattle.sm_top.specs.Accepting.{too_many_in, first_refusal, judged, accepted, IsTooMany}
+use Rattle.sm_top.specs.Accepting.{judged, accepted}
+use Rattle.sm_serve.specs.Refusals.{too_many_in, first_refusal, IsTooMany}
 use Rattle.sm_top.specs.Checked.{verdict_lines, status_by}
 use Rattle.sm_top.specs.Outcome.{IsAnswer, IsRefused, not_accepted, by_job}
-use Rattle.sm_top.specs.Wrote.{Wrote, With}
-use Rattle.sm_top.proofs.SeatLemmas.{too_many_at}
-use Rattle.sm_top.proofs.WritingLemmas.{wrote_for}
+use Rattle.sm_serve.specs.Wrote.{Wrote, With}
+use Rattle.sm_serve.proofs.SeatLemmas.{too_many_at}
+use Rattle.sm_serve.proofs.WritingLemmas.{wrote_for}
 
 -- it is `check` that judges an answer
 pub is_check : (job : JobData) → judges_answer job ≡ true → job ≡ Check
@@ -72,12 +73,12 @@ pub text_refused : (bytes : List ℕ) (read : ReadText) (at : ℕ) → accepted 
 text_refused bytes read at before few bad = by_job read (check_accepted bytes read before few) (record { at = at; bad = bad; says = refl })
 
 -- the lines of the verdict were written
-pub wrote_verdict : {form : Form} (tallies : List Shown) (bytes : List ℕ) (read : ReadText) (v : Verdict) (gives : List (List ℕ) → Type 0) (a b : Option (List ℕ)) (f g : ℕ) (status : Status)
+pub wrote_verdict : {form : Form} (tallies : List Shown) (bytes : List ℕ) (read : ReadText) (v : Verdict) (gives : List (List ℕ) → Type 0) {K : Type 0} (held : K → Option (List ℕ)) (faults : K → ℕ) (a b : K) (status : Status)
     → accepted Check bytes ≡ Ok read → IsJudged read.input (texts_from bytes read.rest) read.rest_line v
-    → ((lines : List (List ℕ)) → gives lines → IsShown read.input (λ answer. answer ≡ verdict_lines v) lines) → Wrote form (With (status_by v) gives) a b f g status
-    → Wrote form (IsAnswer tallies Check bytes) a b f g status
-wrote_verdict {form} tallies bytes read v gives a b f g status ok is_judged right =
-    wrote_for (With (status_by v) gives) (IsAnswer tallies Check bytes) a b f g status
+    → ((lines : List (List ℕ)) → gives lines → IsShown read.input (λ answer. answer ≡ verdict_lines v) lines) → Wrote form (With (status_by v) gives) held faults a b status
+    → Wrote form (IsAnswer tallies Check bytes) held faults a b status
+wrote_verdict {form} tallies bytes read v gives held faults a b status ok is_judged right =
+    wrote_for (With (status_by v) gives) (IsAnswer tallies Check bytes) held faults a b status
     (λ s lines h. let shown = right lines h.given_lines in record {
       read = read;
       ok = ok;

@@ -10,8 +10,8 @@ use Rattle.sm_top.specs.Forms.{given_text}
 use Rattle.sm_top.specs.Outcome.{IsRefusedIn, not_accepted}
 use Rattle.sm_top.specs.Accepting.{behind_text}
 use Rattle.sm_top.specs.Steps.{IsUngiven}
-use Rattle.sm_top.specs.Texts.{RefusalData, plain_refusal}
-use Rattle.sm_top.proofs.RunLemmas.{too_long_text}
+use Rattle.sm_serve.specs.Texts.{RefusalData, plain_refusal}
+use Rattle.sm_serve.proofs.RunLemmas.{too_long_text}
 
 -- of bytes that aren't too many the text is that of their value
 pub short_given : (bytes : List ℕ) → length bytes ≤ most_bytes → given_text Json bytes ≡ option_map_or Ok (text_in bytes) (Err (plain_refusal BadJson 0))

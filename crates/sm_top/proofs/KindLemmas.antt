@@ -26,19 +26,20 @@ use Rattle.sm_report.specs.Lines.{LineData}
 use Rattle.sm_answer_pairs.specs.RegretAnswer.{IsRegretAnswer}
 use Rattle.sm_answer_median.specs.MedianAnswer.{IsMedianAnswer}
 use Rattle.sm_answer_roommates.specs.RoomAnswer.{IsMatched, IsUnmatchable}
-use Rattle.sm_top.specs.declared.status.Status.{Status}
-use Rattle.sm_top.specs.declared.status.Status.TheVariants.{Done, NoneExists}
-use Rattle.sm_top.specs.Texts.{RefusalData, plain_refusal}
+use Rattle.sm_serve.specs.declared.status.Status.{Status}
+use Rattle.sm_serve.specs.declared.status.Status.TheVariants.{Done, NoneExists}
+use Rattle.sm_serve.specs.Texts.{RefusalData, plain_refusal}
 use Rattle.sm_words.specs.Takes.{reads_input, takes_kind, takes_rooms_alone}
 use Rattle.sm_agents.specs.Kinds.{has_two_sides}
-use Rattle.sm_top.specs.Accepting.{too_many_in, too_many_seats, first_refusal, judged, accepted, IsTooMany}
+use Rattle.sm_top.specs.Accepting.{too_many_seats, judged, accepted}
+use Rattle.sm_serve.specs.Refusals.{too_many_in, first_refusal, IsTooMany}
 use Rattle.sm_tally.specs.Fold.{Shown}
 use Rattle.sm_words.specs.Words.{usual_limit}
 use Rattle.sm_answer_survey.specs.SurveyAnswer.{IsSurveyAnswer}
 use Rattle.sm_instance_lines.specs.Printed.{lines_of}
 use Rattle.sm_top.specs.Outcome.{IsWeighed, IsMiddle, IsSummary, IsMade, IsSolved, IsRegretted, IsAnswerOver, IsAnswer, IsRefused, not_accepted}
-use Rattle.sm_top.specs.Wrote.{Wrote, With}
-use Rattle.sm_top.proofs.WritingLemmas.{wrote_for, wrote_shown}
+use Rattle.sm_serve.specs.Wrote.{Wrote, With}
+use Rattle.sm_serve.proofs.WritingLemmas.{wrote_for}
 
 -- Instances with two sides: every job takes them but `rest`.
 
@@ -114,79 +115,87 @@ room_accepted job bytes read persons is before taken = before ∙ kind_judged jo
 
 -- The answers of `solve` and `regret`.
 
+-- lines that show an answer of one form show one of several, with its status
+pub wrote_shown : {form : Form} (given : Status) (gives : List (List ℕ) → Type 0) (input : Input) (right : List LineData → Type 0) (R : Status → List LineData → Type 0) {K : Type 0} (held : K → Option (List ℕ)) (faults : K → ℕ) (a b : K) (status : Status)
+    → ((lines : List (List ℕ)) → gives lines → IsShown input right lines) → ((answer : List LineData) → right answer → R given answer)
+    → Wrote form (With given gives) held faults a b status → Wrote form (λ s. IsShown input (R s)) held faults a b status
+wrote_shown {form} given gives input right R held faults a b status shows to =
+    wrote_for (With given gives) (λ s. IsShown input (R s)) held faults a b status
+    (λ s lines h. let shown = shows lines h.given_lines in record { answer = shown.answer; is_right = subst (λ (s : Status). R s shown.answer) (sym h.same) (to shown.answer shown.is_right); shows = shown.shows })
+
 -- an answer is right for a job
-pub answer_over : {form : Form} (job : JobData) (bytes : List ℕ) (read : ReadText) (right : Input → Status → List LineData → Type 0) (a b : Option (List ℕ)) (f g : ℕ) (status : Status) → accepted job bytes ≡ Ok read
-    → Wrote form (λ s. IsShown read.input (right read.input s)) a b f g status → Wrote form (λ s lines. IsAnswerOver job bytes (λ read. right read.input s) lines) a b f g status
-answer_over {form} job bytes read right a b f g status ok =
-    wrote_for (λ s. IsShown read.input (right read.input s)) (λ s lines. IsAnswerOver job bytes (λ read. right read.input s) lines) a b f g status (λ s lines shown. record { read = read; ok = ok; shown = shown })
+pub answer_over : {form : Form} (job : JobData) (bytes : List ℕ) (read : ReadText) (right : Input → Status → List LineData → Type 0) {K : Type 0} (held : K → Option (List ℕ)) (faults : K → ℕ) (a b : K) (status : Status) → accepted job bytes ≡ Ok read
+    → Wrote form (λ s. IsShown read.input (right read.input s)) held faults a b status → Wrote form (λ s lines. IsAnswerOver job bytes (λ read. right read.input s) lines) held faults a b status
+answer_over {form} job bytes read right held faults a b status ok =
+    wrote_for (λ s. IsShown read.input (right read.input s)) (λ s lines. IsAnswerOver job bytes (λ read. right read.input s) lines) held faults a b status (λ s lines shown. record { read = read; ok = ok; shown = shown })
 
 -- over two sides a right answer to `solve` is the best matching of the side, or of the proposers
-pub two_solved : {form : Form} (side : Option Side) (input : Input) (w : Written) (a b : Option (List ℕ)) (f g : ℕ) (status : Status) → input ≡ Two w
-    → Wrote form (With Done (IsShown input (IsSolution (unwrap_or side Proposers) w))) a b f g status → Wrote form (λ s. IsShown input (IsSolved side input s)) a b f g status
-two_solved {form} side input w a b f g status is =
+pub two_solved : {form : Form} (side : Option Side) (input : Input) (w : Written) {K : Type 0} (held : K → Option (List ℕ)) (faults : K → ℕ) (a b : K) (status : Status) → input ≡ Two w
+    → Wrote form (With Done (IsShown input (IsSolution (unwrap_or side Proposers) w))) held faults a b status → Wrote form (λ s. IsShown input (IsSolved side input s)) held faults a b status
+two_solved {form} side input w held faults a b status is =
     let right : List LineData → Type 0 = IsSolution (unwrap_or side Proposers) w in
-    wrote_shown Done (IsShown input right) input right (IsSolved side input) a b f g status (λ lines shown. shown)
+    wrote_shown Done (IsShown input right) input right (IsSolved side input) held faults a b status (λ lines shown. shown)
     (λ answer h. subst (λ (input : Input). IsSolved side input Done answer) (sym is) (refl, h))
 
 -- roommates with a stable matching, and such without
-pub room_solved : {form : Form} (input : Input) (persons : List AgentData) (gives : List (List ℕ) → Type 0) (a b : Option (List ℕ)) (f g : ℕ) (status : Status) → input ≡ Room persons
-    → ((lines : List (List ℕ)) → gives lines → IsShown input (IsMatched persons) lines) → Wrote form (With Done gives) a b f g status → Wrote form (λ s. IsShown input (IsSolved None input s)) a b f g status
-room_solved {form} input persons gives a b f g status is right =
-    wrote_shown Done gives input (IsMatched persons) (IsSolved None input) a b f g status right (λ answer h. subst (λ (input : Input). IsSolved None input Done answer) (sym is) (inl (refl, h)))
+pub room_solved : {form : Form} (input : Input) (persons : List AgentData) (gives : List (List ℕ) → Type 0) {K : Type 0} (held : K → Option (List ℕ)) (faults : K → ℕ) (a b : K) (status : Status) → input ≡ Room persons
+    → ((lines : List (List ℕ)) → gives lines → IsShown input (IsMatched persons) lines) → Wrote form (With Done gives) held faults a b status → Wrote form (λ s. IsShown input (IsSolved None input s)) held faults a b status
+room_solved {form} input persons gives held faults a b status is right =
+    wrote_shown Done gives input (IsMatched persons) (IsSolved None input) held faults a b status right (λ answer h. subst (λ (input : Input). IsSolved None input Done answer) (sym is) (inl (refl, h)))
 
 -- where roommates have none, a right answer to `solve` says so
-pub room_unsolved : {form : Form} (input : Input) (persons : List AgentData) (gives : List (List ℕ) → Type 0) (a b : Option (List ℕ)) (f g : ℕ) (status : Status) → input ≡ Room persons
-    → ((lines : List (List ℕ)) → gives lines → IsShown input (IsUnmatchable persons) lines) → Wrote form (With NoneExists gives) a b f g status → Wrote form (λ s. IsShown input (IsSolved None input s)) a b f g status
-room_unsolved {form} input persons gives a b f g status is right =
-    wrote_shown NoneExists gives input (IsUnmatchable persons) (IsSolved None input) a b f g status right (λ answer h. subst (λ (input : Input). IsSolved None input NoneExists answer) (sym is) (inr (refl, h)))
+pub room_unsolved : {form : Form} (input : Input) (persons : List AgentData) (gives : List (List ℕ) → Type 0) {K : Type 0} (held : K → Option (List ℕ)) (faults : K → ℕ) (a b : K) (status : Status) → input ≡ Room persons
+    → ((lines : List (List ℕ)) → gives lines → IsShown input (IsUnmatchable persons) lines) → Wrote form (With NoneExists gives) held faults a b status → Wrote form (λ s. IsShown input (IsSolved None input s)) held faults a b status
+room_unsolved {form} input persons gives held faults a b status is right =
+    wrote_shown NoneExists gives input (IsUnmatchable persons) (IsSolved None input) held faults a b status right (λ answer h. subst (λ (input : Input). IsSolved None input NoneExists answer) (sym is) (inr (refl, h)))
 
 -- instances with an allowed stable matching, and such without
-pub two_regretted : {form : Form} (input : Input) (w : Written) (gives : List (List ℕ) → Type 0) (a b : Option (List ℕ)) (f g : ℕ) (status : Status) → input ≡ Two w
-    → ((lines : List (List ℕ)) → gives lines → IsShown input (IsRegretAnswer w) lines) → Wrote form (With Done gives) a b f g status → Wrote form (λ s. IsShown input (IsRegretted input s)) a b f g status
-two_regretted {form} input w gives a b f g status is right =
-    wrote_shown Done gives input (IsRegretAnswer w) (IsRegretted input) a b f g status right (λ answer h. subst (λ (input : Input). IsRegretted input Done answer) (sym is) (inl (refl, h)))
+pub two_regretted : {form : Form} (input : Input) (w : Written) (gives : List (List ℕ) → Type 0) {K : Type 0} (held : K → Option (List ℕ)) (faults : K → ℕ) (a b : K) (status : Status) → input ≡ Two w
+    → ((lines : List (List ℕ)) → gives lines → IsShown input (IsRegretAnswer w) lines) → Wrote form (With Done gives) held faults a b status → Wrote form (λ s. IsShown input (IsRegretted input s)) held faults a b status
+two_regretted {form} input w gives held faults a b status is right =
+    wrote_shown Done gives input (IsRegretAnswer w) (IsRegretted input) held faults a b status right (λ answer h. subst (λ (input : Input). IsRegretted input Done answer) (sym is) (inl (refl, h)))
 
 -- where none is allowed, a right answer to `regret` says so
-pub two_unallowed : {form : Form} (input : Input) (w : Written) (gives : List (List ℕ) → Type 0) (a b : Option (List ℕ)) (f g : ℕ) (status : Status) → input ≡ Two w
-    → ((lines : List (List ℕ)) → gives lines → IsShown input (IsNoneAllowed HeadData.Regret w) lines) → Wrote form (With NoneExists gives) a b f g status → Wrote form (λ s. IsShown input (IsRegretted input s)) a b f g status
-two_unallowed {form} input w gives a b f g status is right =
-    wrote_shown NoneExists gives input (IsNoneAllowed HeadData.Regret w) (IsRegretted input) a b f g status right (λ answer h. subst (λ (input : Input). IsRegretted input NoneExists answer) (sym is) (inr (refl, h)))
+pub two_unallowed : {form : Form} (input : Input) (w : Written) (gives : List (List ℕ) → Type 0) {K : Type 0} (held : K → Option (List ℕ)) (faults : K → ℕ) (a b : K) (status : Status) → input ≡ Two w
+    → ((lines : List (List ℕ)) → gives lines → IsShown input (IsNoneAllowed HeadData.Regret w) lines) → Wrote form (With NoneExists gives) held faults a b status → Wrote form (λ s. IsShown input (IsRegretted input s)) held faults a b status
+two_unallowed {form} input w gives held faults a b status is right =
+    wrote_shown NoneExists gives input (IsNoneAllowed HeadData.Regret w) (IsRegretted input) held faults a b status right (λ answer h. subst (λ (input : Input). IsRegretted input NoneExists answer) (sym is) (inr (refl, h)))
 
 -- instances with an allowed stable matching, and such without, for `weight`
-pub two_weighed : {form : Form} (by : Measure) (input : Input) (w : Written) (gives : List (List ℕ) → Type 0) (a b : Option (List ℕ)) (f g : ℕ) (status : Status) → input ≡ Two w
-    → ((lines : List (List ℕ)) → gives lines → IsShown input (IsWeightAnswer by w) lines) → Wrote form (With Done gives) a b f g status → Wrote form (λ s. IsShown input (IsWeighed by input s)) a b f g status
-two_weighed {form} by input w gives a b f g status is right =
-    wrote_shown Done gives input (IsWeightAnswer by w) (IsWeighed by input) a b f g status right (λ answer h. subst (λ (input : Input). IsWeighed by input Done answer) (sym is) (inl (refl, h)))
+pub two_weighed : {form : Form} (by : Measure) (input : Input) (w : Written) (gives : List (List ℕ) → Type 0) {K : Type 0} (held : K → Option (List ℕ)) (faults : K → ℕ) (a b : K) (status : Status) → input ≡ Two w
+    → ((lines : List (List ℕ)) → gives lines → IsShown input (IsWeightAnswer by w) lines) → Wrote form (With Done gives) held faults a b status → Wrote form (λ s. IsShown input (IsWeighed by input s)) held faults a b status
+two_weighed {form} by input w gives held faults a b status is right =
+    wrote_shown Done gives input (IsWeightAnswer by w) (IsWeighed by input) held faults a b status right (λ answer h. subst (λ (input : Input). IsWeighed by input Done answer) (sym is) (inl (refl, h)))
 
 -- where none is allowed, a right answer to `weight` says so
-pub two_unweighed : {form : Form} (by : Measure) (input : Input) (w : Written) (gives : List (List ℕ) → Type 0) (a b : Option (List ℕ)) (f g : ℕ) (status : Status) → input ≡ Two w
-    → ((lines : List (List ℕ)) → gives lines → IsShown input (IsNoneAllowed (HeadData.Weight by) w) lines) → Wrote form (With NoneExists gives) a b f g status → Wrote form (λ s. IsShown input (IsWeighed by input s)) a b f g status
-two_unweighed {form} by input w gives a b f g status is right =
-    wrote_shown NoneExists gives input (IsNoneAllowed (HeadData.Weight by) w) (IsWeighed by input) a b f g status right (λ answer h. subst (λ (input : Input). IsWeighed by input NoneExists answer) (sym is) (inr (refl, h)))
+pub two_unweighed : {form : Form} (by : Measure) (input : Input) (w : Written) (gives : List (List ℕ) → Type 0) {K : Type 0} (held : K → Option (List ℕ)) (faults : K → ℕ) (a b : K) (status : Status) → input ≡ Two w
+    → ((lines : List (List ℕ)) → gives lines → IsShown input (IsNoneAllowed (HeadData.Weight by) w) lines) → Wrote form (With NoneExists gives) held faults a b status → Wrote form (λ s. IsShown input (IsWeighed by input s)) held faults a b status
+two_unweighed {form} by input w gives held faults a b status is right =
+    wrote_shown NoneExists gives input (IsNoneAllowed (HeadData.Weight by) w) (IsWeighed by input) held faults a b status right (λ answer h. subst (λ (input : Input). IsWeighed by input NoneExists answer) (sym is) (inr (refl, h)))
 
 -- instances with an allowed stable matching, and such without, for `median`
-pub two_middle : {form : Form} (input : Input) (w : Written) (gives : List (List ℕ) → Type 0) (a b : Option (List ℕ)) (f g : ℕ) (status : Status) → input ≡ Two w
-    → ((lines : List (List ℕ)) → gives lines → IsShown input (IsMedianAnswer w) lines) → Wrote form (With Done gives) a b f g status → Wrote form (λ s. IsShown input (IsMiddle input s)) a b f g status
-two_middle {form} input w gives a b f g status is right =
-    wrote_shown Done gives input (IsMedianAnswer w) (IsMiddle input) a b f g status right (λ answer h. subst (λ (input : Input). IsMiddle input Done answer) (sym is) (inl (refl, h)))
+pub two_middle : {form : Form} (input : Input) (w : Written) (gives : List (List ℕ) → Type 0) {K : Type 0} (held : K → Option (List ℕ)) (faults : K → ℕ) (a b : K) (status : Status) → input ≡ Two w
+    → ((lines : List (List ℕ)) → gives lines → IsShown input (IsMedianAnswer w) lines) → Wrote form (With Done gives) held faults a b status → Wrote form (λ s. IsShown input (IsMiddle input s)) held faults a b status
+two_middle {form} input w gives held faults a b status is right =
+    wrote_shown Done gives input (IsMedianAnswer w) (IsMiddle input) held faults a b status right (λ answer h. subst (λ (input : Input). IsMiddle input Done answer) (sym is) (inl (refl, h)))
 
 -- where none is allowed, a right answer to `median` says so
-pub two_without_middle : {form : Form} (input : Input) (w : Written) (gives : List (List ℕ) → Type 0) (a b : Option (List ℕ)) (f g : ℕ) (status : Status) → input ≡ Two w
-    → ((lines : List (List ℕ)) → gives lines → IsShown input (IsNoneAllowed HeadData.Median w) lines) → Wrote form (With NoneExists gives) a b f g status → Wrote form (λ s. IsShown input (IsMiddle input s)) a b f g status
-two_without_middle {form} input w gives a b f g status is right =
-    wrote_shown NoneExists gives input (IsNoneAllowed HeadData.Median w) (IsMiddle input) a b f g status right (λ answer h. subst (λ (input : Input). IsMiddle input NoneExists answer) (sym is) (inr (refl, h)))
+pub two_without_middle : {form : Form} (input : Input) (w : Written) (gives : List (List ℕ) → Type 0) {K : Type 0} (held : K → Option (List ℕ)) (faults : K → ℕ) (a b : K) (status : Status) → input ≡ Two w
+    → ((lines : List (List ℕ)) → gives lines → IsShown input (IsNoneAllowed HeadData.Median w) lines) → Wrote form (With NoneExists gives) held faults a b status → Wrote form (λ s. IsShown input (IsMiddle input s)) held faults a b status
+two_without_middle {form} input w gives held faults a b status is right =
+    wrote_shown NoneExists gives input (IsNoneAllowed HeadData.Median w) (IsMiddle input) held faults a b status right (λ answer h. subst (λ (input : Input). IsMiddle input NoneExists answer) (sym is) (inr (refl, h)))
 
 -- The summary of a made instance.
-pub two_summarized : {form : Form} (tallies : List Shown) (input : Input) (w : Written) (gives : List (List ℕ) → Type 0) (a b : Option (List ℕ)) (f g : ℕ) (status : Status) → input ≡ Two w
-    → ((lines : List (List ℕ)) → gives lines → IsShown input (IsSurveyAnswer tallies usual_limit w) lines) → Wrote form (With Done gives) a b f g status → Wrote form (λ s. IsShown input (IsSummary tallies input s)) a b f g status
-two_summarized {form} tallies input w gives a b f g status is right =
-    wrote_shown Done gives input (IsSurveyAnswer tallies usual_limit w) (IsSummary tallies input) a b f g status right (λ answer h. subst (λ (input : Input). IsSummary tallies input Done answer) (sym is) (refl, h))
+pub two_summarized : {form : Form} (tallies : List Shown) (input : Input) (w : Written) (gives : List (List ℕ) → Type 0) {K : Type 0} (held : K → Option (List ℕ)) (faults : K → ℕ) (a b : K) (status : Status) → input ≡ Two w
+    → ((lines : List (List ℕ)) → gives lines → IsShown input (IsSurveyAnswer tallies usual_limit w) lines) → Wrote form (With Done gives) held faults a b status → Wrote form (λ s. IsShown input (IsSummary tallies input s)) held faults a b status
+two_summarized {form} tallies input w gives held faults a b status is right =
+    wrote_shown Done gives input (IsSurveyAnswer tallies usual_limit w) (IsSummary tallies input) held faults a b status right (λ answer h. subst (λ (input : Input). IsSummary tallies input Done answer) (sym is) (refl, h))
 
 -- of roommates it is what `solve` answers
-pub room_summarized : {form : Form} (tallies : List Shown) (input : Input) (persons : List AgentData) (a b : Option (List ℕ)) (f g : ℕ) (status : Status) → input ≡ Room persons
-    → Wrote form (λ s. IsShown input (IsSolved None input s)) a b f g status → Wrote form (λ s. IsShown input (IsSummary tallies input s)) a b f g status
-room_summarized {form} tallies input persons a b f g status is =
-    wrote_for (λ s. IsShown input (IsSolved None input s)) (λ s. IsShown input (IsSummary tallies input s)) a b f g status
+pub room_summarized : {form : Form} (tallies : List Shown) (input : Input) (persons : List AgentData) {K : Type 0} (held : K → Option (List ℕ)) (faults : K → ℕ) (a b : K) (status : Status) → input ≡ Room persons
+    → Wrote form (λ s. IsShown input (IsSolved None input s)) held faults a b status → Wrote form (λ s. IsShown input (IsSummary tallies input s)) held faults a b status
+room_summarized {form} tallies input persons held faults a b status is =
+    wrote_for (λ s. IsShown input (IsSolved None input s)) (λ s. IsShown input (IsSummary tallies input s)) held faults a b status
     (λ s lines shown. record {
       answer = shown.answer;
       is_right = subst (λ (i : Input). IsSummary tallies i s shown.answer) (sym is) (subst (λ (i : Input). IsSolved None i s shown.answer) is shown.is_right);
@@ -194,14 +203,14 @@ room_summarized {form} tallies input persons a b f g status is =
     })
 
 -- the text of a made instance
-pub text_made : {form : Form} (tallies : List Shown) (input : Input) (gives : List (List ℕ) → Type 0) (a b : Option (List ℕ)) (f g : ℕ) (status : Status)
-    → ((lines : List (List ℕ)) → gives lines → lines ≡ lines_of input) → Wrote form (With Done gives) a b f g status → Wrote form (IsMade tallies input false) a b f g status
-text_made {form} tallies input gives a b f g status right = wrote_for (With Done gives) (IsMade tallies input false) a b f g status (λ s lines h. (h.same, right lines h.given_lines))
+pub text_made : {form : Form} (tallies : List Shown) (input : Input) (gives : List (List ℕ) → Type 0) {K : Type 0} (held : K → Option (List ℕ)) (faults : K → ℕ) (a b : K) (status : Status)
+    → ((lines : List (List ℕ)) → gives lines → lines ≡ lines_of input) → Wrote form (With Done gives) held faults a b status → Wrote form (IsMade tallies input false) held faults a b status
+text_made {form} tallies input gives held faults a b status right = wrote_for (With Done gives) (IsMade tallies input false) held faults a b status (λ s lines h. (h.same, right lines h.given_lines))
 
 -- an instance in JSON, which is written as a line of text
-pub wrote_export : (tallies : List Shown) (bytes : List ℕ) (read : ReadText) (form : Form) (a b : Option (List ℕ)) (f g : ℕ) (status : Status) → IsFormFor Export form → accepted Export bytes ≡ Ok read
-    → Wrote Text (With Done (λ lines. lines ≡ compact_text (json_of read.input) ∷ [])) a b f g status → Wrote form (IsAnswer tallies Export bytes) a b f g status
-wrote_export tallies bytes read form a b f g status formed ok w =
-    subst (λ (form : Form). Wrote form (IsAnswer tallies Export bytes) a b f g status) (sym (formed refl))
-    (wrote_for (With Done (λ lines. lines ≡ compact_text (json_of read.input) ∷ [])) (IsAnswer tallies Export bytes) a b f g status
+pub wrote_export : (tallies : List Shown) (bytes : List ℕ) (read : ReadText) (form : Form) {K : Type 0} (held : K → Option (List ℕ)) (faults : K → ℕ) (a b : K) (status : Status) → IsFormFor Export form → accepted Export bytes ≡ Ok read
+    → Wrote Text (With Done (λ lines. lines ≡ compact_text (json_of read.input) ∷ [])) held faults a b status → Wrote form (IsAnswer tallies Export bytes) held faults a b status
+wrote_export tallies bytes read form held faults a b status formed ok w =
+    subst (λ (form : Form). Wrote form (IsAnswer tallies Export bytes) held faults a b status) (sym (formed refl))
+    (wrote_for (With Done (λ lines. lines ≡ compact_text (json_of read.input) ∷ [])) (IsAnswer tallies Export bytes) held faults a b status
     (λ s lines h. (h.same, record { read = read; ok = ok; shows = h.given_lines })) w)

@@ -1,9 +1,6 @@
-pub mod WritingLemmas
-pub mod InputLemmas
-pub mod StopLemmas
+pub mod BehindLemmas
 pub mod RefusingLemmas
 pub mod RunLemmas
-pub mod SeatLemmas
 pub mod MadeLemmas
 pub mod KindLemmas
 pub mod CheckLemmas

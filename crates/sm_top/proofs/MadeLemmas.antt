@@ -23,7 +23,7 @@ use Rattle.sm_seats.specs.SeatMarket.{seat_count}
 use Rattle.sm_seats.specs.SeatEntries.{seat_entries, seat_entries_before}
 use Rattle.sm_seats.proofs.FilterLemmas.{length-filter-le}
 use Rattle.sm_seats.proofs.LimitLaws.{first_too_many-none}
-use Rattle.sm_top.specs.Accepting.{too_many_in}
+use Rattle.sm_serve.specs.Refusals.{too_many_in}
 
 times : (n m k l : ℕ) → n ≤ k → m ≤ l → n * m ≤ k * l
 times n m k l h i =

@@ -8,9 +8,9 @@ use Rattle.sm_check_clauses.specs.declared.verdicts.Verdict.TheVariants as verdi
 use Rattle.sm_report.specs.Heads.{HeadData}
 use Rattle.sm_report.specs.Lines.{LineData}
 use Rattle.sm_text.specs.declared.refusal.RefusalKind.TheVariants.{BadAnswer}
-use Rattle.sm_top.specs.declared.status.Status.{Status}
-use Rattle.sm_top.specs.declared.status.Status.TheVariants.{Done, CheckedNo}
-use Rattle.sm_top.specs.Texts.{RefusalData, plain_refusal}
+use Rattle.sm_serve.specs.declared.status.Status.{Status}
+use Rattle.sm_serve.specs.declared.status.Status.TheVariants.{Done, CheckedNo}
+use Rattle.sm_serve.specs.Texts.{RefusalData, plain_refusal}
 
 -- the line of a verdict, its answer, and the status that goes with it
 abbrev pub verdict_line : Verdict → LineData

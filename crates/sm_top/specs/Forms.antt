@@ -1,15 +1,13 @@
--- Inputs and answers in a form: the text of the instance that an input gives, and what is written for lines.
+-- Inputs in a form: the text of the instance that an input gives.
 use Rattle.std.specs.Prelude.{ℕ, nat_lt, if◌then◌else◌, List, length, Result, Ok, Err}
 use Rattle.std.specs.Option.{option_map_or}
-use Rattle.sm_answer.specs.Writing.{text_of}
 use Rattle.sm_json.specs.JsonText.{text_in}
-use Rattle.sm_json.specs.Wrapping.{json_of_lines}
 use Rattle.sm_text.specs.Limits.{most_bytes}
 use Rattle.sm_text.specs.declared.refusal.RefusalKind.TheVariants.{TooLong, BadJson}
 use Rattle.sm_words.specs.declared.jobs.Form.{Form}
 use Rattle.sm_words.specs.declared.jobs.Form.TheVariants.{Text, Json}
 use Rattle.sm_words.specs.Jobs.{JobData}
-use Rattle.sm_top.specs.Texts.{RefusalData, plain_refusal}
+use Rattle.sm_serve.specs.Texts.{RefusalData, plain_refusal}
 
 -- the text of the instance that bytes are in JSON, or why there is none: they are too many, or no instance in JSON. A text that
 -- is too long is refused as any is.
@@ -21,11 +19,6 @@ text_of_json bytes =
 abbrev pub given_text : Form → List ℕ → Result (List ℕ) RefusalData
 given_text Text bytes = Ok bytes
 given_text Json bytes = text_of_json bytes
-
--- what is written for lines in a form
-abbrev pub written_text : Form → List (List ℕ) → List ℕ
-written_text Text lines = text_of lines
-written_text Json lines = json_of_lines lines
 
 -- the form in which words ask for an answer; that they are faulty is said in a line
 abbrev pub form_asked : Result (JobData × Form) ℕ → Form

@@ -1,13 +1,7 @@
-pub mod Texts
 pub mod Forms
 pub mod Accepting
 pub mod Checked
-pub mod Input
 pub mod Outcome
 pub mod Running
-pub mod Statuses
-pub mod Stops
-pub mod Wrote
 pub mod Steps
-pub mod Unsaid
 pub mod Counted

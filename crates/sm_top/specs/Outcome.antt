@@ -17,9 +17,9 @@ use Rattle.sm_text.specs.declared.refusal.RefusalKind.TheVariants.{BadCursor, To
 use Rattle.sm_words.specs.declared.jobs.Form.{Form}
 use Rattle.sm_words.specs.Jobs.{JobData, Solve, Reduced, Rotations, Pairs, Regret, Weight, Meet, Join, Survey, Check, Make, Rest, Median, Route, Export}
 use Rattle.sm_words.specs.Words.{usual_limit, words_meaning}
-use Rattle.sm_top.specs.declared.status.Status.{Status}
-use Rattle.sm_top.specs.declared.status.Status.TheVariants.{Done, Refused, Usage, NoneExists}
-use Rattle.sm_top.specs.Texts.{RefusalData, plain_refusal, with_detail, usage_line, refused_line}
+use Rattle.sm_serve.specs.declared.status.Status.{Status}
+use Rattle.sm_serve.specs.declared.status.Status.TheVariants.{Done, Refused, Usage, NoneExists}
+use Rattle.sm_serve.specs.Texts.{RefusalData, plain_refusal, with_detail, usage_line, refused_line}
 use Rattle.sm_top.specs.Checked.{IsChecked, IsUnreadable}
 use Rattle.sm_words.specs.Takes.{reads_input}
 use Rattle.sm_top.specs.Accepting.{accepted, IsUnaccepted}

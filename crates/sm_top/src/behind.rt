@@ -1,18 +1,18 @@
 //! The two matchings behind an instance.
 
-ghost use Rattle.std.specs.Prelude.{◌≡◌, ◌≤◌, ◌<◌, ◌+◌, ◌^◌, length, drop, IfOk, IfErr};
+ghost use Rattle.std.specs.Prelude.{◌≡◌, ◌<◌, ◌+◌, ◌^◌, length, drop, IfOk, IfErr};
 ghost use Rattle.sm_instance.specs.declared.inputs.Input.TheVariants.{Two};
 ghost use Rattle.sm_text.specs.Lines.{lines, texts_from};
 ghost use Rattle.sm_report.specs.Sound.{ArePair};
 ghost use Rattle.sm_answer_given.specs.Given.{AreStableGiven};
 ghost use Rattle.sm_top.specs.Outcome.{IsGivenRefusal, which_name, flaw_name, unstable_fields};
-ghost use Rattle.sm_top.specs.Stops.{StopsBy};
-ghost use Rattle.sm_top.specs.Texts.{refusal_fields};
+ghost use Rattle.sm_serve.specs.Stops.{StopsBy};
+ghost use Rattle.sm_serve.specs.Texts.{refusal_fields};
 
-use crate::stop::Stop;
 use sm_answer_given::{Flaw, Given, GivenFault, Unstable, Which, find_given};
 use sm_instance::{Input, Instance};
 use sm_reader::Read;
+use sm_serve::Stop;
 use sm_text::RefusalKind;
 use std::alloc::{AllocError, Global};
 

@@ -1,6 +1,6 @@
 //! Doing `check`.
 
-ghost use Rattle.std.specs.Prelude.{◌≡◌, ◌≤◌, ◌<◌, List, ℕ, length, drop, IfOk, IfErr, OnErr, Ok};
+ghost use Rattle.std.specs.Prelude.{◌≡◌, ◌≤◌, ◌<◌, List, ℕ, length, drop, IfErr, Ok};
 ghost use Rattle.sm_answer.specs.Giving.{HasRest};
 ghost use Rattle.sm_answer.specs.Printing.{IsShown};
 ghost use Rattle.sm_instance.specs.Inputs.{right_of};
@@ -15,12 +15,9 @@ ghost use Rattle.sm_words.specs.Jobs.{Check};
 ghost use Rattle.sm_top.specs.Accepting.{judged, accepted};
 ghost use Rattle.sm_top.specs.Checked.{verdict_line, verdict_lines, status_by};
 ghost use Rattle.sm_top.specs.Outcome.{IsAnswer, IsRefused};
-ghost use Rattle.sm_top.specs.Stops.{StopsBy};
-ghost use Rattle.sm_top.specs.Wrote.{Wrote};
+ghost use Rattle.sm_serve.specs.Stops.{StopsBy};
+ghost use Rattle.sm_serve.specs.Wrote.{Leaves};
 
-use crate::status::Status;
-use crate::stop::Stop;
-use crate::writing::write;
 use sm_answer::{Lines, One, Printed, Then};
 use sm_cert::{CertFault, check};
 use sm_check_clauses::Verdict;
@@ -28,6 +25,7 @@ use sm_instance::Input;
 use sm_io::Sink;
 use sm_reader::Read;
 use sm_report::{Head, Line};
+use sm_serve::{Status, Stop, write};
 use sm_text::RefusalKind;
 use sm_words::Form;
 use std::alloc::Global;
@@ -46,12 +44,10 @@ pub(crate) fn check_answer<K: Sink>(
     requires short { length bytes.now ≤ most_bytes }
     requires text { instance_text bytes.now ≡ Ok (read_of read.now) }
     requires accepted { accepted Check bytes.now ≡ judged Check (read_of read.now) }
-    ensures wrote { (tallies : List Shown)
-        → IfOk result (λ status. Wrote form (IsAnswer tallies Check bytes.now)
-        (K.held sink.old) (K.held sink.new) (K.faults sink.old) (K.faults sink.new) status) }
+    ensures leaves { (tallies : List Shown)
+        → Leaves form (IsAnswer tallies Check bytes.now)
+        K.held K.faults sink.old sink.new result }
     ensures stop { IfErr result (λ stop. StopsBy (λ _. ⊥) (IsRefused Check bytes.now) ⊥ stop) }
-    ensures unwritten { OnErr result (sink.new ≡ sink.old) }
-    ensures later { K.faults sink.old ≤ K.faults sink.new }
 {
     let answer = text_from(bytes, read.rest);
     match check(alloc, &read.input, answer, read.rest_line) {

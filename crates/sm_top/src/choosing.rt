@@ -1,22 +1,20 @@
 //! Doing `meet` and `join`.
 
-ghost use Rattle.std.specs.Prelude.{◌≡◌, ◌≤◌, ◌<◌, ◌+◌, ◌^◌, length, drop, IfOk, IfErr, OnErr};
+ghost use Rattle.std.specs.Prelude.{◌≡◌, ◌<◌, ◌+◌, ◌^◌, length, drop, IfErr};
 ghost use Rattle.sm_answer.specs.Printing.{IsShown};
 ghost use Rattle.sm_instance.specs.declared.inputs.Input.TheVariants.{Two};
 ghost use Rattle.sm_text.specs.Lines.{lines, texts_from};
 ghost use Rattle.sm_answer_given.specs.Chosen.{IsChosenAnswer};
 ghost use Rattle.sm_top.specs.Outcome.{IsGivenRefusal};
-ghost use Rattle.sm_top.specs.Stops.{StopsBy};
-ghost use Rattle.sm_top.specs.Wrote.{Wrote, With};
+ghost use Rattle.sm_serve.specs.Stops.{StopsBy};
+ghost use Rattle.sm_serve.specs.Wrote.{Leaves, With};
 
 use crate::behind::given_behind;
 use crate::performing::Counted;
-use crate::status::Status;
-use crate::stop::Stop;
-use crate::writing::write;
 use sm_answer_given::chosen_lines;
 use sm_holding::choose_places;
 use sm_io::Sink;
+use sm_serve::{Status, Stop, write};
 use sm_theory::Choice;
 use std::alloc::Global;
 
@@ -31,15 +29,13 @@ pub(crate) fn choose<K: Sink>(
     requires two { given.now.read.now.input ≡ Two given.now.instance.now }
     requires few { given.now.read.now.rest_line
         + length (lines (drop given.now.read.now.rest bytes.now)) < 2 ^ 32 }
-    ensures wrote { IfOk result (λ status. Wrote given.now.form
+    ensures leaves { Leaves given.now.form
         (With Status.Done (IsShown given.now.read.now.input (IsChosenAnswer choice (texts_from
         bytes.now given.now.read.now.rest) given.now.instance.now)))
-        (K.held sink.old) (K.held sink.new) (K.faults sink.old) (K.faults sink.new) status) }
+        K.held K.faults sink.old sink.new result }
     ensures stop { IfErr result (λ stop. StopsBy (λ _. ⊥)
         (IsGivenRefusal given.now.instance.now (texts_from bytes.now given.now.read.now.rest)
         given.now.read.now.rest_line) ⊥ stop) }
-    ensures unwritten { OnErr result (sink.new ≡ sink.old) }
-    ensures later { K.faults sink.old ≤ K.faults sink.new }
 {
     let instance = given.instance;
     let two = given_behind(alloc, given.read, instance, bytes)?;

@@ -4,10 +4,10 @@ ghost use Rattle.std.specs.Prelude.{◌≡◌, ◌≤◌, length, IfOk, IfErr, O
 ghost use Rattle.sm_text.specs.Limits.{most_bytes};
 ghost use Rattle.sm_top.specs.Forms.{given_text};
 ghost use Rattle.sm_top.specs.Steps.{IsUngiven};
-ghost use Rattle.sm_top.specs.Stops.{StopsBy};
+ghost use Rattle.sm_serve.specs.Stops.{StopsBy};
 
-use crate::stop::Stop;
 use sm_json::{JsonFault, to_text};
+use sm_serve::Stop;
 use sm_text::{MOST_BYTES, RefusalKind};
 use sm_words::Form;
 use std::alloc::Global;

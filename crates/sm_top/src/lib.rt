@@ -10,16 +10,12 @@ mod checking;
 mod choosing;
 mod exporting;
 mod giving;
-mod input;
 mod making;
 mod performing;
 mod refusing;
 mod running;
-mod status;
-mod stop;
-mod writing;
 
 pub use running::run;
 pub use sm_check_clauses::Reason;
+pub use sm_serve::Status;
 pub use sm_words::{Form, Job, WordsFault, read_words};
-pub use status::Status;

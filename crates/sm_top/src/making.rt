@@ -1,23 +1,20 @@
 //! Made instances: their texts, and their summaries.
 
-ghost use Rattle.std.specs.Prelude.{◌≡◌, ◌≤◌, map, None, IfOk, IfErr, OnErr};
+ghost use Rattle.std.specs.Prelude.{◌≡◌, map, None, IfErr};
 ghost use Rattle.sm_answer.specs.Printing.{IsShown};
 ghost use Rattle.sm_tally.specs.Fold.{shown_as};
-ghost use Rattle.sm_top.specs.Accepting.{too_many_in};
+ghost use Rattle.sm_serve.specs.Refusals.{too_many_in};
 ghost use Rattle.sm_top.specs.Outcome.{IsMade, IsSummary};
-ghost use Rattle.sm_top.specs.Stops.{StopsBy};
-ghost use Rattle.sm_top.specs.Wrote.{Wrote};
+ghost use Rattle.sm_serve.specs.Stops.{StopsBy};
+ghost use Rattle.sm_serve.specs.Wrote.{Leaves};
 
 use crate::performing::solve_roommates;
-use crate::refusing::counts_of;
-use crate::status::Status;
-use crate::stop::Stop;
-use crate::writing::write;
 use sm_answer_survey::survey_lines;
 use sm_instance::Input;
 use sm_instance_lines::instance_lines;
 use sm_io::Sink;
 use sm_seats::Seats;
+use sm_serve::{Status, Stop, counts_of, write};
 use sm_tally::Tally;
 use sm_words::{Form, USUAL_LIMIT};
 use std::alloc::Global;
@@ -32,12 +29,10 @@ pub(crate) fn show_made<K: Sink>(
     sink: &mut K,
 ) -> Result<Status, Stop>
     requires few { too_many_in input.now ≡ None }
-    ensures wrote { IfOk result (λ status. Wrote form (IsMade (map (λ t. shown_as (kind t) (shown t))
+    ensures leaves { Leaves form (IsMade (map (λ t. shown_as (kind t) (shown t))
         tallies.old.items) input.now is_summary)
-        (K.held sink.old) (K.held sink.new) (K.faults sink.old) (K.faults sink.new) status) }
+        K.held K.faults sink.old sink.new result }
     ensures stop { IfErr result (λ stop. StopsBy (λ _. ⊥) (λ _. ⊥) ⊥ stop) }
-    ensures unwritten { OnErr result (sink.new ≡ sink.old) }
-    ensures later { K.faults sink.old ≤ K.faults sink.new }
 {
     if is_summary {
         return summarize(alloc, input, form, tallies, sink);
@@ -54,12 +49,10 @@ fn summarize<K: Sink>(
     sink: &mut K,
 ) -> Result<Status, Stop>
     requires few { too_many_in input.now ≡ None }
-    ensures wrote { IfOk result (λ status. Wrote form (λ status. IsShown input.now (IsSummary (map
+    ensures leaves { Leaves form (λ status. IsShown input.now (IsSummary (map
         (λ t. shown_as (kind t) (shown t)) tallies.old.items) input.now status))
-        (K.held sink.old) (K.held sink.new) (K.faults sink.old) (K.faults sink.new) status) }
+        K.held K.faults sink.old sink.new result }
     ensures stop { IfErr result (λ stop. StopsBy (λ _. ⊥) (λ _. ⊥) ⊥ stop) }
-    ensures unwritten { OnErr result (sink.new ≡ sink.old) }
-    ensures later { K.faults sink.old ≤ K.faults sink.new }
 {
     match input {
         Input::Two(instance) => {

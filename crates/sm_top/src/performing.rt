@@ -1,6 +1,6 @@
 //! Doing a job: an arm for each command, which makes its answer and writes it.
 
-ghost use Rattle.std.specs.Prelude.{◌≡◌, ℕ, ◌+◌, ◌<◌, ◌^◌, ◌≤◌, ◌↔◌, drop, Ok, None, IfOk, IfErr, OnOk, OnErr, IsTrue, unwrap_or, length, map, true, false, List};
+ghost use Rattle.std.specs.Prelude.{◌≡◌, ℕ, ◌+◌, ◌<◌, ◌^◌, ◌≤◌, ◌↔◌, drop, Ok, None, IfOk, IfErr, OnOk, IsTrue, unwrap_or, length, map, true, false, List};
 ghost use Rattle.sm_answer.specs.Printing.{IsShown};
 ghost use Rattle.sm_agents.specs.Sound.{IsInstance};
 ghost use Rattle.sm_instance.specs.declared.inputs.Input.TheVariants.{Two, Room};
@@ -11,7 +11,8 @@ ghost use Rattle.sm_text.specs.declared.refusal.RefusalKind.TheVariants.{WrongKi
 ghost use Rattle.sm_text.specs.Lines.{lines, texts_from};
 ghost use Rattle.sm_words.specs.Jobs.{job_of, IsFormFor, IsInBounds};
 ghost use Rattle.sm_words.specs.Takes.{reads_input, takes_text, IsTextFor, judges_answer, takes_rooms_alone};
-ghost use Rattle.sm_top.specs.Accepting.{judged, accepted, too_many_in, IsTooMany};
+ghost use Rattle.sm_top.specs.Accepting.{judged, accepted};
+ghost use Rattle.sm_serve.specs.Refusals.{too_many_in, IsTooMany};
 ghost use Rattle.sm_top.specs.Counted.{IsCounted};
 ghost use Rattle.sm_answer_solve.specs.Solution.{IsSolution};
 ghost use Rattle.sm_answer_roommates.specs.RestAnswer.{IsRest};
@@ -25,17 +26,13 @@ ghost use Rattle.sm_answer_route.specs.RouteAnswer.{IsRouteAnswer};
 ghost use Rattle.sm_top.specs.Outcome.{IsSolved, IsRegretted, IsWeighed, IsMiddle, IsAnswer, IsBadCursor, IsTooManyAllowed, IsGivenRefusal, IsOwnRefusal, IsRefused};
 ghost use Rattle.sm_answer_rotations.specs.Reduction.{IsReduction};
 ghost use Rattle.sm_answer_rotations.specs.RotationAnswer.{IsRotationAnswer};
-ghost use Rattle.sm_top.specs.Stops.{StopsBy};
-ghost use Rattle.sm_top.specs.declared.stop.Stop.TheVariants.{Refused};
-ghost use Rattle.sm_top.specs.Wrote.{Wrote, With};
+ghost use Rattle.sm_serve.specs.Stops.{StopsBy};
+ghost use Rattle.sm_serve.specs.declared.stop.Stop.TheVariants.{Refused};
+ghost use Rattle.sm_serve.specs.Wrote.{Leaves, With};
 
 use crate::behind::given_behind;
 use crate::choosing::choose;
 use crate::exporting::export;
-use crate::refusing::counts_of;
-use crate::status::Status;
-use crate::stop::Stop;
-use crate::writing::write;
 use sm_answer_list::{list_lines, start_list};
 use sm_answer_median::{MedianFault, find_median, median_lines};
 use sm_answer_pairs::{find_pairs, find_regret, pairs_lines, regret_lines};
@@ -54,6 +51,7 @@ use sm_io::Sink;
 use sm_reader::Read;
 use sm_report::Head;
 use sm_seats::{SeatCounts, Seats};
+use sm_serve::{Status, Stop, counts_of, write};
 use sm_tally::Tally;
 use sm_text::RefusalKind;
 use sm_theory::Choice;
@@ -93,13 +91,11 @@ pub(crate) fn perform<K: Sink>(
         ≡ judged (job_of job.now) (read_of reading.now.read.now) }
     requires bounds { IsInBounds (job_of job.now) }
     requires form { IsFormFor (job_of job.now) reading.now.form }
-    ensures wrote { IfOk result (λ status. Wrote reading.now.form (IsAnswer (map
+    ensures leaves { Leaves reading.now.form (IsAnswer (map
         (λ t. shown_as (kind t) (shown t)) tallies.old.items) (job_of job.now) bytes.items)
-        (K.held sink.old) (K.held sink.new) (K.faults sink.old) (K.faults sink.new) status) }
+        K.held K.faults sink.old sink.new result }
     ensures stop { IfErr result (λ stop. StopsBy (λ _. ⊥)
         (IsRefused (job_of job.now) bytes.items) ⊥ stop) }
-    ensures unwritten { OnErr result (sink.new ≡ sink.old) }
-    ensures later { K.faults sink.old ≤ K.faults sink.new }
 {
     let behind = text_for(alloc, job, bytes);
     match &reading.read.input {
@@ -177,16 +173,14 @@ fn perform_on_two<K: Sink>(
     requires counted { IsCounted given.now.read.now.input given.now.instance.now given.now.counts }
     requires bounds { IsInBounds (job_of job.now) }
     requires form { IsFormFor (job_of job.now) given.now.form }
-    ensures wrote { (text : List ℕ) → IsTextFor (job_of job.now) text bytes.now
+    ensures leaves { (text : List ℕ) → IsTextFor (job_of job.now) text bytes.now
         → accepted (job_of job.now) text ≡ Ok (read_of given.now.read.now)
-        → IfOk result (λ status. Wrote given.now.form (IsAnswer (map (λ t. shown_as (kind t) (shown t))
+        → Leaves given.now.form (IsAnswer (map (λ t. shown_as (kind t) (shown t))
         tallies.old.items) (job_of job.now) text)
-        (K.held sink.old) (K.held sink.new) (K.faults sink.old) (K.faults sink.new) status) }
+        K.held K.faults sink.old sink.new result }
     ensures stop { (text : List ℕ) → IsTextFor (job_of job.now) text bytes.now
         → IfErr result (λ stop. StopsBy (λ _. ⊥)
         (IsOwnRefusal (job_of job.now) text (read_of given.now.read.now)) ⊥ stop) }
-    ensures unwritten { OnErr result (sink.new ≡ sink.old) }
-    ensures later { K.faults sink.old ≤ K.faults sink.new }
 {
     match job {
         Job::Solve(side) => Ok(solve(alloc, given, *side, sink)?),
@@ -219,15 +213,13 @@ fn perform_on_persons<K: Sink>(
     requires room { reading.now.read.now.input ≡ Room persons.now }
     requires bounds { IsInBounds (job_of job.now) }
     requires form { IsFormFor (job_of job.now) reading.now.form }
-    ensures wrote { (text : List ℕ) (tallies : List Shown)
+    ensures leaves { (text : List ℕ) (tallies : List Shown)
         → accepted (job_of job.now) text ≡ judged (job_of job.now) (read_of reading.now.read.now)
-        → IfOk result (λ status. Wrote reading.now.form (IsAnswer tallies (job_of job.now) text)
-        (K.held sink.old) (K.held sink.new) (K.faults sink.old) (K.faults sink.new) status) }
+        → Leaves reading.now.form (IsAnswer tallies (job_of job.now) text)
+        K.held K.faults sink.old sink.new result }
     ensures stop { (text : List ℕ)
         → accepted (job_of job.now) text ≡ judged (job_of job.now) (read_of reading.now.read.now)
         → IfErr result (λ stop. StopsBy (λ _. ⊥) (IsRefused (job_of job.now) text) ⊥ stop) }
-    ensures unwritten { OnErr result (sink.new ≡ sink.old) }
-    ensures later { K.faults sink.old ≤ K.faults sink.new }
 {
     let input = &reading.read.input;
     match job {
@@ -258,12 +250,10 @@ fn solve<K: Sink>(
     sink: &mut K,
 ) -> Result<Status, AllocError>
     requires { IsCounted given.now.read.now.input given.now.instance.now given.now.counts }
-    ensures wrote { IfOk result (λ status. Wrote given.now.form
+    ensures { Leaves given.now.form
         (With Status.Done (IsShown given.now.read.now.input
         (IsSolution (unwrap_or side Side.Proposers) given.now.instance.now)))
-        (K.held sink.old) (K.held sink.new) (K.faults sink.old) (K.faults sink.new) status) }
-    ensures unwritten { OnErr result (sink.new ≡ sink.old) }
-    ensures later { K.faults sink.old ≤ K.faults sink.new }
+        K.held K.faults sink.old sink.new result }
 {
     let solution = find_solution(alloc, given.instance, &given.counts, side)?;
     let lines = solution_lines(&given.read.input, given.instance, &solution);
@@ -279,11 +269,9 @@ pub(crate) fn solve_roommates<K: Sink>(
     sink: &mut K,
 ) -> Result<Status, AllocError>
     requires { input.now ≡ Room persons.now }
-    ensures wrote { IfOk result (λ status. Wrote form
+    ensures { Leaves form
         (λ status. IsShown input.now (IsSolved None input.now status))
-        (K.held sink.old) (K.held sink.new) (K.faults sink.old) (K.faults sink.new) status) }
-    ensures unwritten { OnErr result (sink.new ≡ sink.old) }
-    ensures later { K.faults sink.old ≤ K.faults sink.new }
+        K.held K.faults sink.old sink.new result }
 {
     match find_roommates(alloc, persons)? {
         RoomSolution::Matching(mates) => {
@@ -308,14 +296,12 @@ fn list_persons<K: Sink>(
 ) -> Result<Status, Stop>
     requires room { reading.now.read.now.input ≡ Room persons.now }
     requires limit { IsLimit limit }
-    ensures wrote { IfOk result (λ status. Wrote reading.now.form
+    ensures leaves { Leaves reading.now.form
         (With Status.Done (IsShown reading.now.read.now.input (IsRoomListAnswer
         (cursor_in after.now) limit persons.now)))
-        (K.held sink.old) (K.held sink.new) (K.faults sink.old) (K.faults sink.new) status) }
+        K.held K.faults sink.old sink.new result }
     ensures stop { IfErr result (λ stop.
         StopsBy (λ _. ⊥) (IsBadCursor (cursor_in after.now) (Room persons.now)) ⊥ stop) }
-    ensures unwritten { OnErr result (sink.new ≡ sink.old) }
-    ensures later { K.faults sink.old ≤ K.faults sink.new }
 {
     if !is_cursor(count_of(persons), after) {
         return Err(Stop::Refused(RefusalKind::BadCursor, 0));
@@ -333,11 +319,9 @@ fn show_rest<K: Sink>(
     sink: &mut K,
 ) -> Result<Status, AllocError>
     requires { input.now ≡ Room persons.now }
-    ensures wrote { IfOk result (λ status. Wrote form
+    ensures { Leaves form
         (With Status.Done (IsShown input.now (IsRest persons.now)))
-        (K.held sink.old) (K.held sink.new) (K.faults sink.old) (K.faults sink.new) status) }
-    ensures unwritten { OnErr result (sink.new ≡ sink.old) }
-    ensures later { K.faults sink.old ≤ K.faults sink.new }
+        K.held K.faults sink.old sink.new result }
 {
     let rest = find_rest(alloc, persons)?;
     let lines = rest_lines(input, persons, &rest);
@@ -347,11 +331,9 @@ fn show_rest<K: Sink>(
 /// Does `reduced`.
 fn reduce<K: Sink>(alloc: Global, given: &Counted<'_>, sink: &mut K) -> Result<Status, AllocError>
     requires { IsCounted given.now.read.now.input given.now.instance.now given.now.counts }
-    ensures wrote { IfOk result (λ status. Wrote given.now.form
+    ensures { Leaves given.now.form
         (With Status.Done (IsShown given.now.read.now.input (IsReduction given.now.instance.now)))
-        (K.held sink.old) (K.held sink.new) (K.faults sink.old) (K.faults sink.new) status) }
-    ensures unwritten { OnErr result (sink.new ≡ sink.old) }
-    ensures later { K.faults sink.old ≤ K.faults sink.new }
+        K.held K.faults sink.old sink.new result }
 {
     let seats = Seats::counted(alloc, given.instance, &given.counts)?;
     let reduction = find_reduction(alloc, &seats)?;
@@ -366,12 +348,10 @@ fn show_rotations<K: Sink>(
     sink: &mut K,
 ) -> Result<Status, AllocError>
     requires { IsCounted given.now.read.now.input given.now.instance.now given.now.counts }
-    ensures wrote { IfOk result (λ status. Wrote given.now.form
+    ensures { Leaves given.now.form
         (With Status.Done (IsShown given.now.read.now.input
         (IsRotationAnswer given.now.instance.now)))
-        (K.held sink.old) (K.held sink.new) (K.faults sink.old) (K.faults sink.new) status) }
-    ensures unwritten { OnErr result (sink.new ≡ sink.old) }
-    ensures later { K.faults sink.old ≤ K.faults sink.new }
+        K.held K.faults sink.old sink.new result }
 {
     let seats = Seats::counted(alloc, given.instance, &given.counts)?;
     let found = find_rotations(alloc, &seats)?;
@@ -389,14 +369,12 @@ fn list<K: Sink>(
 ) -> Result<Status, Stop>
     requires counted { IsCounted given.now.read.now.input given.now.instance.now given.now.counts }
     requires limit { IsLimit limit }
-    ensures wrote { IfOk result (λ status. Wrote given.now.form
+    ensures leaves { Leaves given.now.form
         (With Status.Done (IsShown given.now.read.now.input (IsListAnswer (cursor_in after.now)
         limit given.now.instance.now)))
-        (K.held sink.old) (K.held sink.new) (K.faults sink.old) (K.faults sink.new) status) }
+        K.held K.faults sink.old sink.new result }
     ensures stop { IfErr result (λ stop.
         StopsBy (λ _. ⊥) (IsBadCursor (cursor_in after.now) (Two given.now.instance.now)) ⊥ stop) }
-    ensures unwritten { OnErr result (sink.new ≡ sink.old) }
-    ensures later { K.faults sink.old ≤ K.faults sink.new }
 {
     if !is_cursor(given.instance.proposer_count() as usize, after) {
         return Err(Stop::Refused(RefusalKind::BadCursor, 0));
@@ -421,11 +399,9 @@ fn show_pairs<K: Sink>(
     sink: &mut K,
 ) -> Result<Status, AllocError>
     requires { IsCounted given.now.read.now.input given.now.instance.now given.now.counts }
-    ensures wrote { IfOk result (λ status. Wrote given.now.form
+    ensures { Leaves given.now.form
         (With Status.Done (IsShown given.now.read.now.input (IsPairsAnswer given.now.instance.now)))
-        (K.held sink.old) (K.held sink.new) (K.faults sink.old) (K.faults sink.new) status) }
-    ensures unwritten { OnErr result (sink.new ≡ sink.old) }
-    ensures later { K.faults sink.old ≤ K.faults sink.new }
+        K.held K.faults sink.old sink.new result }
 {
     let seats = Seats::counted(alloc, given.instance, &given.counts)?;
     let pairs = find_pairs(alloc, given.instance, &seats)?;
@@ -440,11 +416,9 @@ fn show_regret<K: Sink>(
     sink: &mut K,
 ) -> Result<Status, AllocError>
     requires { IsCounted given.now.read.now.input given.now.instance.now given.now.counts }
-    ensures wrote { IfOk result (λ status. Wrote given.now.form
+    ensures { Leaves given.now.form
         (λ status. IsShown given.now.read.now.input (IsRegretted given.now.read.now.input status))
-        (K.held sink.old) (K.held sink.new) (K.faults sink.old) (K.faults sink.new) status) }
-    ensures unwritten { OnErr result (sink.new ≡ sink.old) }
-    ensures later { K.faults sink.old ≤ K.faults sink.new }
+        K.held K.faults sink.old sink.new result }
 {
     let seats = Seats::counted(alloc, given.instance, &given.counts)?;
     match find_regret(alloc, given.instance, &seats)? {
@@ -467,11 +441,9 @@ fn show_lightest<K: Sink>(
     sink: &mut K,
 ) -> Result<Status, AllocError>
     requires { IsCounted given.now.read.now.input given.now.instance.now given.now.counts }
-    ensures wrote { IfOk result (λ status. Wrote given.now.form
+    ensures { Leaves given.now.form
         (λ status. IsShown given.now.read.now.input (IsWeighed by given.now.read.now.input status))
-        (K.held sink.old) (K.held sink.new) (K.faults sink.old) (K.faults sink.new) status) }
-    ensures unwritten { OnErr result (sink.new ≡ sink.old) }
-    ensures later { K.faults sink.old ≤ K.faults sink.new }
+        K.held K.faults sink.old sink.new result }
 {
     let seats = Seats::counted(alloc, given.instance, &given.counts)?;
     match find_lightest(alloc, given.instance, &seats, by)? {
@@ -496,12 +468,10 @@ fn survey<K: Sink>(
 ) -> Result<Status, AllocError>
     requires counted { IsCounted given.now.read.now.input given.now.instance.now given.now.counts }
     requires limit { IsLimit limit }
-    ensures wrote { IfOk result (λ status. Wrote given.now.form
+    ensures { Leaves given.now.form
         (With Status.Done (IsShown given.now.read.now.input (IsSurveyAnswer (map
         (λ t. shown_as (kind t) (shown t)) tallies.old.items) limit given.now.instance.now)))
-        (K.held sink.old) (K.held sink.new) (K.faults sink.old) (K.faults sink.new) status) }
-    ensures unwritten { OnErr result (sink.new ≡ sink.old) }
-    ensures later { K.faults sink.old ≤ K.faults sink.new }
+        K.held K.faults sink.old sink.new result }
 {
     let seats = Seats::counted(alloc, given.instance, &given.counts)?;
     let lines = survey_lines(
@@ -518,13 +488,11 @@ fn survey<K: Sink>(
 /// Does `median`.
 fn show_median<K: Sink>(alloc: Global, given: &Counted<'_>, sink: &mut K) -> Result<Status, Stop>
     requires { IsCounted given.now.read.now.input given.now.instance.now given.now.counts }
-    ensures wrote { IfOk result (λ status. Wrote given.now.form
+    ensures leaves { Leaves given.now.form
         (λ status. IsShown given.now.read.now.input (IsMiddle given.now.read.now.input status))
-        (K.held sink.old) (K.held sink.new) (K.faults sink.old) (K.faults sink.new) status) }
+        K.held K.faults sink.old sink.new result }
     ensures stop { IfErr result (λ stop.
         StopsBy (λ _. ⊥) (IsTooManyAllowed given.now.read.now.input) ⊥ stop) }
-    ensures unwritten { OnErr result (sink.new ≡ sink.old) }
-    ensures later { K.faults sink.old ≤ K.faults sink.new }
 {
     let seats = Seats::counted(alloc, given.instance, &given.counts)?;
     match find_median(alloc, given.instance, &seats) {
@@ -551,15 +519,13 @@ fn show_route<K: Sink>(
     requires counted { IsCounted given.now.read.now.input given.now.instance.now given.now.counts }
     requires few { given.now.read.now.rest_line
         + length (lines (drop given.now.read.now.rest bytes.now)) < 2 ^ 32 }
-    ensures wrote { IfOk result (λ status. Wrote given.now.form
+    ensures leaves { Leaves given.now.form
         (With Status.Done (IsShown given.now.read.now.input (IsRouteAnswer (texts_from bytes.now
         given.now.read.now.rest) given.now.instance.now)))
-        (K.held sink.old) (K.held sink.new) (K.faults sink.old) (K.faults sink.new) status) }
+        K.held K.faults sink.old sink.new result }
     ensures stop { IfErr result (λ stop. StopsBy (λ _. ⊥)
         (IsGivenRefusal given.now.instance.now (texts_from bytes.now given.now.read.now.rest)
         given.now.read.now.rest_line) ⊥ stop) }
-    ensures unwritten { OnErr result (sink.new ≡ sink.old) }
-    ensures later { K.faults sink.old ≤ K.faults sink.new }
 {
     let ends = given_behind(alloc, given.read, given.instance, bytes)?;
     let seats = Seats::counted(alloc, given.instance, &given.counts)?;

@@ -1,24 +1,18 @@
-//! Which inputs are refused, and what is counted of the seats of those that aren't.
+//! Which inputs are refused before their kind and their seats are looked at.
 
-ghost use Rattle.std.specs.Prelude.{◌≡◌, ◌≤◌, ◌+◌, ◌<◌, ◌^◌, length, drop, MatchOption, IfOk, IfErr, OnOk, Ok, Err, None};
+ghost use Rattle.std.specs.Prelude.{◌≡◌, ◌≤◌, length, MatchOption, IfOk, IfErr, Ok, Err};
 ghost use Rattle.sm_text.specs.Limits.{most_bytes};
 ghost use Rattle.sm_text.specs.declared.refusal.RefusalKind.TheVariants.{AfterEnd};
-ghost use Rattle.sm_text.specs.Lines.{lines};
-ghost use Rattle.sm_text.specs.Tokens.{tokens};
 ghost use Rattle.sm_reader.specs.InstanceText.{instance_text, read_of};
-ghost use Rattle.sm_top.specs.Accepting.{first_saying, has_tokens, IsTooMany, judged, accepted, IsUnaccepted};
-ghost use Rattle.sm_seats.specs.Counted.{AreSeatCounts};
-ghost use Rattle.sm_seats.specs.SeatEntries.{AreFewSeats, first_too_many};
-ghost use Rattle.sm_instance.specs.declared.inputs.Input.TheVariants.{Two};
-ghost use Rattle.sm_top.specs.Stops.{StopsBy};
-ghost use Rattle.sm_top.specs.declared.stop.Stop.{Stop};
+ghost use Rattle.sm_serve.specs.Stops.{StopsBy};
+ghost use Rattle.sm_serve.specs.declared.stop.Stop.{Stop};
+ghost use Rattle.sm_top.specs.Accepting.{judged, accepted, IsUnaccepted};
 ghost use Rattle.sm_words.specs.Jobs.{job_of};
 
-use crate::stop::Stop;
-use sm_instance::{Input, Instance, Side};
+use sm_instance::{Input, Side};
 use sm_reader::{Read, TextFault, read_instance};
-use sm_seats::{SeatCounts, SeatsFault, seat_counts};
-use sm_text::{RefusalKind, TokenAt, line_at, token_at};
+use sm_serve::{Stop, text_behind};
+use sm_text::RefusalKind;
 use sm_words::{Job, takes_text};
 use std::alloc::{AllocError, Global};
 
@@ -32,7 +26,7 @@ pub(crate) fn read_for(alloc: Global, job: &Job, bytes: &[u8]) -> Result<Read, S
         ⊥ stop) }
 {
     match read_instance(alloc, bytes) {
-        Ok(read) => match text_behind(job, bytes, &read) {
+        Ok(read) => match text_refused(job, bytes, &read) {
             Some(line) => Err(Stop::Refused(RefusalKind::AfterEnd, line)),
             None => kept_for(job, bytes, read),
         },
@@ -71,25 +65,8 @@ fn keep_for(job: &Job, bytes: &[u8], input: &mut Input) -> Result<(), AllocError
     Ok(())
 }
 
-/// What is counted of the seats of an instance, where they aren't too many.
-pub(crate) fn counts_of(alloc: Global, instance: &Instance) -> Result<SeatCounts, Stop>
-    ensures counts { IfOk result (AreSeatCounts instance.now) }
-    ensures few { OnOk result (AreFewSeats instance.now) }
-    ensures none { OnOk result (first_too_many instance.now ≡ None) }
-    ensures stop { IfErr result (λ stop. StopsBy (λ _. ⊥) (IsTooMany (Two instance.now)) ⊥ stop) }
-{
-    match seat_counts(alloc, instance) {
-        Ok(counts) => Ok(counts),
-        Err(SeatsFault::TooManySeats(r)) => {
-            let line = instance.reviewers()[r as usize].line;
-            Err(Stop::Refused(RefusalKind::TooManySeats, line))
-        }
-        Err(SeatsFault::OutOfMemory) => Err(Stop::OutOfMemory),
-    }
-}
-
 /// The line of text behind `end`, where a job takes none and there is some.
-fn text_behind(job: &Job, bytes: &[u8], read: &Read) -> Option<u32>
+fn text_refused(job: &Job, bytes: &[u8], read: &Read) -> Option<u32>
     requires short { length bytes.now ≤ most_bytes }
     requires read { instance_text bytes.now ≡ Ok (read_of read.now) }
     ensures { MatchOption result
@@ -99,34 +76,5 @@ fn text_behind(job: &Job, bytes: &[u8], read: &Read) -> Option<u32>
     if takes_text(job) {
         return None;
     }
-    first_saying(bytes, read.rest, read.rest_line)
-}
-
-/// The number of the first line from a place on that says something, where the line at that place has this number.
-fn first_saying(bytes: &[u8], from: usize, number: u32) -> Option<u32>
-    requires few { number + length (lines (drop from bytes.now)) < 2 ^ 32 }
-    ensures { result ≡ first_saying number (lines (drop from bytes.now)) }
-{
-    let mut at = from;
-    let mut line_number = number;
-    'lines: while let Some(line) = line_at(bytes, at) {
-        if says_something(&bytes[line.start..line.stop]) {
-            return Some(line_number);
-        }
-        line_number += 1;
-        at = line.next;
-    }
-    None
-}
-
-/// Is a line neither blank nor a comment?
-fn says_something(line: &[u8]) -> bool
-    ensures { result ≡ has_tokens (tokens line.now) }
-{
-    match token_at(line, 0) {
-        TokenAt::Over => false,
-        TokenAt::Run(_, _) => true,
-        TokenAt::Mark(_) => true,
-        TokenAt::Bad(_) => true,
-    }
+    text_behind(bytes, read)
 }

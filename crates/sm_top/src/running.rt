@@ -1,33 +1,30 @@
 //! The top call.
 
-ghost use Rattle.std.specs.Prelude.{◌≡◌, ◌≤◌, ◌∷◌, [], ℕ, List, Ok, IfOk, IfErr, OnErr, length, map, true, false};
+ghost use Rattle.std.specs.Prelude.{◌≡◌, ◌≤◌, ℕ, List, Ok, IfErr, length, map, true, false};
 ghost use Rattle.sm_text.specs.Limits.{most_bytes};
 ghost use Rattle.sm_io.specs.Faults.{Rose};
 ghost use Rattle.sm_words.specs.Jobs.{job_of, IsFormFor, IsInBounds};
 ghost use Rattle.sm_words.specs.Words.{texts, words_meaning};
 ghost use Rattle.sm_tally.specs.Fold.{shown_as};
 ghost use Rattle.sm_words.specs.Takes.{reads_input};
-ghost use Rattle.sm_top.specs.Input.{Loses};
-ghost use Rattle.sm_top.specs.Outcome.{IsAnswer, IsRefused};
-ghost use Rattle.sm_top.specs.Running.{reads, Answers, AnswersAccepted};
-ghost use Rattle.sm_top.specs.Steps.{Serves, IsRefusal, IsReadFault, SaysStop};
-ghost use Rattle.sm_top.specs.Stops.{StopsBy, IsPlainStop};
-ghost use Rattle.sm_top.specs.Texts.{are_plain, refusal_fields, refused_line, with_detail};
-ghost use Rattle.sm_top.specs.Wrote.{Wrote, With};
+ghost use Rattle.sm_serve.specs.Input.{Drains};
+ghost use Rattle.sm_serve.specs.Running.{Runs};
+ghost use Rattle.sm_serve.specs.Steps.{IsServed};
+ghost use Rattle.sm_serve.specs.Stops.{StopsBy};
+ghost use Rattle.sm_serve.specs.Wrote.{Leaves};
+ghost use Rattle.sm_top.specs.Outcome.{IsAnswer, IsRefused, Outcome};
+ghost use Rattle.sm_top.specs.Running.{reads, form_of, Answers, AnswersAccepted};
+ghost use Rattle.sm_top.specs.Steps.{IsAnswerIn, IsRefusedFrom};
 
 use crate::checking::check_answer;
 use crate::giving::text_given;
-use crate::input::read_all;
 use crate::making::show_made;
 use crate::performing::{Reading, perform};
 use crate::refusing::read_for;
-use crate::status::Status;
-use crate::stop::{RefusedLine, Stop, UsageLine, no_detail};
-use crate::writing::write;
 use sm_io::{Sink, Source};
 use sm_make::make;
+use sm_serve::{Status, Stop, read_all, say_stop};
 use sm_tally::Tally;
-use sm_text::RefusalKind;
 use sm_words::{Form, Job, WordsFault, judges_answer, read_words};
 use std::alloc::Global;
 
@@ -129,16 +126,11 @@ fn run_job<S: Source, K: Sink>(
 ) -> Status
     requires bounds { IsInBounds (job_of job.now) }
     requires form { IsFormFor (job_of job.now) form }
-    ensures answer { (words : List (List ℕ)) → words_meaning words ≡ Ok (job_of job.now, form)
-        → Answers (map (λ t. shown_as (kind t) (shown t)) tallies.old.items) words
-        (S.left source.old) (S.left source.new) (K.held sink.old) (K.held sink.new) result }
+    ensures runs { (words : List (List ℕ)) → words_meaning words ≡ Ok (job_of job.now, form)
+        → Runs (reads words) (form_of words) (Outcome (map
+        (λ t. shown_as (kind t) (shown t)) tallies.old.items) words)
+        S.left S.faults K.held K.faults source.old source.new sink.old sink.new result }
     ensures untouched { reads_input (job_of job.now) ≡ false → source.new ≡ source.old }
-    ensures read_fault { result ≡ Status.ReadFault
-        → Rose (S.faults source.old) (S.faults source.new) }
-    ensures write_fault { result ≡ Status.WriteFault
-        → Rose (K.faults sink.old) (K.faults sink.new) }
-    ensures source_later { S.faults source.old ≤ S.faults source.new }
-    ensures sink_later { K.faults sink.old ≤ K.faults sink.new }
 {
     match serve(alloc, job, form, source, tallies, sink) {
         Ok(status) => status,
@@ -157,17 +149,12 @@ fn serve<S: Source, K: Sink>(
 ) -> Result<Status, Stop>
     requires bounds { IsInBounds (job_of job.now) }
     requires form { IsFormFor (job_of job.now) form }
-    ensures served { IfOk result (λ status. Serves (map (λ t. shown_as (kind t) (shown t))
-        tallies.old.items) (job_of job.now) form (S.left source.old) (S.left source.new)
-        (K.held sink.old) (K.held sink.new) (K.faults sink.old) (K.faults sink.new) status) }
-    ensures stop { IfErr result (λ stop. StopsBy (λ _. ⊥)
-        (IsRefusal (job_of job.now) form (S.left source.old) (S.left source.new))
-        (IsReadFault (job_of job.now) (S.faults source.old) (S.faults source.new)) stop) }
+    ensures served { IsServed (reads_input (job_of job.now)) form (IsAnswerIn (map
+        (λ t. shown_as (kind t) (shown t)) tallies.old.items) (job_of job.now) form)
+        (IsRefusedFrom (job_of job.now) form)
+        S.left S.faults K.held K.faults source.old source.new sink.old sink.new result }
+    ensures drains { Drains S.left S.faults source.old source.new }
     ensures untouched { reads_input (job_of job.now) ≡ false → source.new ≡ source.old }
-    ensures unwritten { OnErr result (sink.new ≡ sink.old) }
-    ensures lost { Loses (S.left source.old) (S.left source.new) }
-    ensures source_later { S.faults source.old ≤ S.faults source.new }
-    ensures sink_later { K.faults sink.old ≤ K.faults sink.new }
 {
     match job {
         Job::Make(shape, size, seed, is_summary) => {
@@ -190,16 +177,11 @@ fn read_and_answer<S: Source, K: Sink>(
     requires reads { reads_input (job_of job.now) ≡ true }
     requires bounds { IsInBounds (job_of job.now) }
     requires form { IsFormFor (job_of job.now) form }
-    ensures served { IfOk result (λ status. Serves (map (λ t. shown_as (kind t) (shown t))
-        tallies.old.items) (job_of job.now) form (S.left source.old) (S.left source.new)
-        (K.held sink.old) (K.held sink.new) (K.faults sink.old) (K.faults sink.new) status) }
-    ensures stop { IfErr result (λ stop. StopsBy (λ _. ⊥)
-        (IsRefusal (job_of job.now) form (S.left source.old) (S.left source.new))
-        (Rose (S.faults source.old) (S.faults source.new)) stop) }
-    ensures unwritten { OnErr result (sink.new ≡ sink.old) }
-    ensures lost { Loses (S.left source.old) (S.left source.new) }
-    ensures source_later { S.faults source.old ≤ S.faults source.new }
-    ensures sink_later { K.faults sink.old ≤ K.faults sink.new }
+    ensures served { IsServed (reads_input (job_of job.now)) form (IsAnswerIn (map
+        (λ t. shown_as (kind t) (shown t)) tallies.old.items) (job_of job.now) form)
+        (IsRefusedFrom (job_of job.now) form)
+        S.left S.faults K.held K.faults source.old source.new sink.old sink.new result }
+    ensures drains { Drains S.left S.faults source.old source.new }
 {
     let bytes = read_all(alloc, source)?;
     let text = text_given(alloc, form, bytes)?;
@@ -219,13 +201,11 @@ fn answer<K: Sink>(
     requires short { length bytes.items ≤ most_bytes }
     requires bounds { IsInBounds (job_of job.now) }
     requires form { IsFormFor (job_of job.now) form }
-    ensures wrote { IfOk result (λ status. Wrote form (IsAnswer (map
+    ensures leaves { Leaves form (IsAnswer (map
         (λ t. shown_as (kind t) (shown t)) tallies.old.items) (job_of job.now) bytes.items)
-        (K.held sink.old) (K.held sink.new) (K.faults sink.old) (K.faults sink.new) status) }
+        K.held K.faults sink.old sink.new result }
     ensures stop { IfErr result (λ stop. StopsBy (λ _. ⊥) (IsRefused (job_of job.now) bytes.items) ⊥
         stop) }
-    ensures unwritten { OnErr result (sink.new ≡ sink.old) }
-    ensures later { K.faults sink.old ≤ K.faults sink.new }
 {
     let read = read_for(alloc, job, &bytes)?;
     if judges_answer(job) {
@@ -233,59 +213,4 @@ fn answer<K: Sink>(
     }
     let reading = Reading { read: &read, form };
     perform(alloc, job, bytes, &reading, tallies, sink)
-}
-
-/// Says why there is no answer.
-fn say_stop<K: Sink>(alloc: Global, form: Form, sink: &mut K, stop: Stop) -> Status
-    requires { IsPlainStop stop }
-    ensures says { SaysStop form stop (K.held sink.old) (K.held sink.new) (K.faults sink.old)
-        (K.faults sink.new) result }
-    ensures later { K.faults sink.old ≤ K.faults sink.new }
-{
-    match stop {
-        Stop::Usage(word) => {
-            let lines = UsageLine {
-                word,
-                is_said: false,
-            };
-            write(alloc, sink, form, Status::Usage(word), lines)
-        }
-        Stop::Refused(kind, at) => {
-            let lines = RefusedLine {
-                kind,
-                at,
-                detail: no_detail(alloc),
-                is_said: false,
-            };
-            write(alloc, sink, form, Status::Refused(kind, at), lines)
-        }
-        Stop::Unstable(at, detail) => say_unstable(alloc, form, sink, at, detail),
-        Stop::ReadFault => Status::ReadFault,
-        Stop::OutOfMemory => Status::OutOfMemory,
-    }
-}
-
-/// Says that a given matching isn't stable, with the fields that tell why.
-fn say_unstable<K: Sink>(
-    alloc: Global,
-    form: Form,
-    sink: &mut K,
-    at: u32,
-    detail: Vec<Vec<u8>>,
-) -> Status
-    requires { are_plain (refusal_fields detail) ≡ true }
-    ensures says { Wrote form (With (Status.Refused RefusalKind.NotStable at)
-        (λ lines. lines ≡ refused_line (with_detail RefusalKind.NotStable at
-        (refusal_fields detail)) ∷ []))
-        (K.held sink.old) (K.held sink.new) (K.faults sink.old) (K.faults sink.new) result }
-    ensures later { K.faults sink.old ≤ K.faults sink.new }
-{
-    let kind = RefusalKind::NotStable;
-    let lines = RefusedLine {
-        kind,
-        at,
-        detail,
-        is_said: false,
-    };
-    write(alloc, sink, form, Status::Refused(kind, at), lines)
 }

@@ -10,25 +10,28 @@ use Rattle.sm_instance.specs.Matching.{standing}
 use Rattle.sm_instance.specs.Stable.{IsStable, IsBestOf}
 use Rattle.sm_instance.specs.Lightest.{IsLightest, IsLighter, IsLightestByBoth}
 use Rattle.sm_instance.specs.Allowed.{IsAllowed}
-use Rattle.sm_instance.specs.Ranks.{IsBefore, weight_of, second_of}
+use Rattle.sm_instance.specs.Ranks.{IsBefore, order_of, rank_vector_of, weight_of, second_of}
 use Rattle.sm_seats.specs.Vectors.{IsAllowedRankVector}
 use Rattle.sm_trim.specs.Cuts.{IsTrimmed}
 use Rattle.sm_trim.specs.Laws.{TrimsKeepBests, TrimsKeepLightest, TrimsKeepListings}
 
--- two instances with the same stable matchings, which stand the same, weigh the same and are allowed alike
-record AreAlike (w t : Written) : Type 0 where
+-- two instances with the same stable matchings, which stand the same, weigh the same and are allowed alike, and with one order
+pub record AreAlike (w t : Written) : Type 0 where
   pub stable : (places : List (Option ℕ)) → IsStable w places ↔ IsStable t places
   pub standings : (places : List (Option ℕ)) → IsStable w places → (p : ℕ) → standing t places p ≡ standing w places p
   pub weights : (by : Measure) (places : List (Option ℕ)) → IsStable w places → weight_of by t places ≡ weight_of by w places
   pub seconds : (by : Measure) (places : List (Option ℕ)) → IsStable w places → second_of by t places ≡ second_of by w places
   pub allowed : (places : List (Option ℕ)) → IsStable w places → IsAllowed w places ↔ IsAllowed t places
+  pub ranks : (places : List (Option ℕ)) → IsStable w places → rank_vector_of t places ≡ rank_vector_of w places
+  pub order : t.order ≡ w.order
 
 second_sums : {w t : Written} → IsTrimmed w t → (by : Measure) (places : List (Option ℕ)) → IsStable w places → second_of by t places ≡ second_of by w places
 second_sums h Ranks places s = refl
 second_sums h Given places s = h.seconds places s
 
-alike : {w t : Written} → IsTrimmed w t → AreAlike w t
-alike h = record { stable = h.stable; standings = h.standings; weights = h.weights; seconds = second_sums h; allowed = h.allowed }
+-- so are an instance and what it is trimmed to
+pub alike : {w t : Written} → IsTrimmed w t → AreAlike w t
+alike h = record { stable = h.stable; standings = h.standings; weights = h.weights; seconds = second_sums h; allowed = h.allowed; ranks = h.ranks; order = h.cut.order }
 
 turned : {w t : Written} → AreAlike w t → AreAlike t w
 turned a = record {
@@ -37,6 +40,22 @@ turned a = record {
   weights = λ by places s. sym (a.weights by places ((a.stable places).1 s));
   seconds = λ by places s. sym (a.seconds by places ((a.stable places).1 s));
   allowed = λ places s. ((a.allowed places ((a.stable places).1 s)).1, (a.allowed places ((a.stable places).1 s)).0);
+  ranks = λ places s. sym (a.ranks places ((a.stable places).1 s));
+  order = sym a.order;
+}
+
+-- and two that are alike to a third one
+pub alike_follows : {w t u : Written} → AreAlike w t → AreAlike t u → AreAlike w u
+alike_follows one two = record {
+  stable = λ places. ((λ s. (two.stable places).0 ((one.stable places).0 s)), (λ s. (one.stable places).1 ((two.stable places).1 s)));
+  standings = λ places s p. two.standings places ((one.stable places).0 s) p ∙ one.standings places s p;
+  weights = λ by places s. two.weights by places ((one.stable places).0 s) ∙ one.weights by places s;
+  seconds = λ by places s. two.seconds by places ((one.stable places).0 s) ∙ one.seconds by places s;
+  allowed = λ places s.
+      let n = (one.stable places).0 s in
+      ((λ a. (two.allowed places n).0 ((one.allowed places s).0 a)), (λ a. (one.allowed places s).1 ((two.allowed places n).1 a)));
+  ranks = λ places s. two.ranks places ((one.stable places).0 s) ∙ one.ranks places s;
+  order = two.order ∙ one.order;
 }
 
 best_over : (side : Side) {w t : Written} (a : AreAlike w t) (places : List (Option ℕ)) → IsBestOf side w places → IsBestOf side t places
@@ -100,13 +119,15 @@ lightest_by_both_over by a places l = record {
       omega arith;
 }
 
-pub trims_keep_bests : TrimsKeepBests
-trims_keep_bests side w t places h = (best_over side (alike h) places, best_over side (turned (alike h)) places)
+-- alike instances have the same best matchings
+pub bests_alike : (side : Side) {w t : Written} → AreAlike w t → (places : List (Option ℕ)) → IsBestOf side w places ↔ IsBestOf side t places
+bests_alike side a places = (best_over side a places, best_over side (turned a) places)
 
-pub trims_keep_lightest : TrimsKeepLightest
-trims_keep_lightest by w t places h = (
-  (lightest_over by (alike h) places, lightest_over by (turned (alike h)) places),
-  (lightest_by_both_over by (alike h) places, lightest_by_both_over by (turned (alike h)) places),
+-- and the same lightest ones
+pub lightest_alike : (by : Measure) {w t : Written} → AreAlike w t → (places : List (Option ℕ)) → (IsLightest by w places ↔ IsLightest by t places) × (IsLightestByBoth by w places ↔ IsLightestByBoth by t places)
+lightest_alike by a places = (
+  (lightest_over by a places, lightest_over by (turned a) places),
+  (lightest_by_both_over by a places, lightest_by_both_over by (turned a) places),
 )
 
 -- a listing of what is in question is one of whatever is in question exactly where it is
@@ -122,26 +143,36 @@ listed_over Before P Q same cursor limit out more l = record {
   cut = l.cut;
 }
 
-vector_over : {w t : Written} → IsTrimmed w t → (v : List ℕ) → IsAllowedRankVector w v ↔ IsAllowedRankVector t v
-vector_over {w} {t} h v = (
-  (λ x. record {
-    places = x.places;
-    stable = (h.stable x.places).0 x.stable;
-    allowed = (h.allowed x.places x.stable).0 x.allowed;
-    vector = x.vector ∙ sym (h.ranks x.places x.stable);
-  }),
-  (λ x.
-      let old = (h.stable x.places).1 x.stable in
-      record { places = x.places; stable = old; allowed = (h.allowed x.places old).1 x.allowed; vector = x.vector ∙ h.ranks x.places old }),
-)
+vector_over : {w t : Written} → AreAlike w t → (v : List ℕ) → IsAllowedRankVector w v → IsAllowedRankVector t v
+vector_over a v x = record {
+  places = x.places;
+  stable = (a.stable x.places).0 x.stable;
+  allowed = (a.allowed x.places x.stable).0 x.allowed;
+  vector = x.vector ∙ sym (a.ranks x.places x.stable);
+}
+
+-- and the same rank vectors
+pub vectors_alike : {w t : Written} → AreAlike w t → (v : List ℕ) → IsAllowedRankVector w v ↔ IsAllowedRankVector t v
+vectors_alike a v = (vector_over a v, vector_over (turned a) v)
+
+listing_over : {w t : Written} → AreAlike w t → (cursor : Option (List ℕ)) (limit : ℕ) (out : List (List ℕ)) (more : Bool)
+    → IsListing (IsBefore (order_of w)) (IsAllowedRankVector w) cursor limit out more → IsListing (IsBefore (order_of t)) (IsAllowedRankVector t) cursor limit out more
+listing_over {w} {t} a cursor limit out more l =
+    subst (λ order. IsListing (IsBefore order) (IsAllowedRankVector t) cursor limit out more) (sym a.order)
+    (listed_over (IsBefore w.order) (IsAllowedRankVector w) (IsAllowedRankVector t) (vectors_alike a) cursor limit out more l)
+
+-- and the same listings of these
+pub listings_alike : {w t : Written} → AreAlike w t → (cursor : Option (List ℕ)) (limit : ℕ) (out : List (List ℕ)) (more : Bool)
+    → IsListing (IsBefore (order_of w)) (IsAllowedRankVector w) cursor limit out more ↔ IsListing (IsBefore (order_of t)) (IsAllowedRankVector t) cursor limit out more
+listings_alike a cursor limit out more = (listing_over a cursor limit out more, listing_over (turned a) cursor limit out more)
+
+-- so it is of an instance and what it is trimmed to
+
+pub trims_keep_bests : TrimsKeepBests
+trims_keep_bests side w t places h = bests_alike side (alike h) places
+
+pub trims_keep_lightest : TrimsKeepLightest
+trims_keep_lightest by w t places h = lightest_alike by (alike h) places
 
 pub trims_keep_listings : TrimsKeepListings
-trims_keep_listings w t h = (
-  vector_over h,
-  λ cursor limit out more. (
-    (λ l. subst (λ order. IsListing (IsBefore order) (IsAllowedRankVector t) cursor limit out more) (sym h.cut.order)
-        (listed_over (IsBefore w.order) (IsAllowedRankVector w) (IsAllowedRankVector t) (vector_over h) cursor limit out more l)),
-    (λ l. listed_over (IsBefore w.order) (IsAllowedRankVector t) (IsAllowedRankVector w) (λ v. ((vector_over h v).1, (vector_over h v).0)) cursor limit out more
-        (subst (λ order. IsListing (IsBefore order) (IsAllowedRankVector t) cursor limit out more) h.cut.order l)),
-  ),
-)
+trims_keep_listings w t h = (vectors_alike (alike h), listings_alike (alike h))

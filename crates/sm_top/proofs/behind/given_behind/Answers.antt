@@ -2,8 +2,8 @@ use Rattle.std.proofs.Common.{ap, refl, ◌∙◌}
 use Rattle.sm_instance.specs.declared.inputs.Input.{Input}
 use Rattle.sm_text.specs.declared.refusal.RefusalKind.TheVariants.{NotStable}
 use Rattle.sm_top.specs.Outcome.{unstable_fields, bad, unstable}
-use Rattle.sm_top.specs.Texts.{with_detail, are_plain}
-use Rattle.sm_top.proofs.StopLemmas.{unstable_plain}
+use Rattle.sm_serve.specs.Texts.{with_detail, are_plain}
+use Rattle.sm_top.proofs.BehindLemmas.{unstable_plain}
 use Rattle.sm_top.proofs.behind.given_behind.Goals as goal
 
 pub returns-in-Err-BadAnswer-clause-stop : goal.returns-in-Err-BadAnswer-clause-stop

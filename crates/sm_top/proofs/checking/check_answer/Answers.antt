@@ -1,7 +1,7 @@
 use Rattle.std.proofs.Common.{arith}
 use Rattle.sm_reader.specs.InstanceText.{read_of}
 use Rattle.sm_text.proofs.LineLemmas.{length-lines-le}
-use Rattle.sm_top.proofs.RefusingLemmas.{rest_line_le}
+use Rattle.sm_serve.proofs.BehindLemmas.{rest_line_le}
 use Rattle.sm_top.proofs.CheckLemmas.{too_many_there, seats_refused, text_refused, check_accepted, wrote_verdict}
 use Rattle.sm_top.proofs.checking.check_answer.Goals as goal
 
@@ -10,12 +10,12 @@ check-requires-clause-first_line g c =
     let bytes = c.args.bytes.now in
     omega (arith, rest_line_le bytes (read_of c.args.read.now) c.requires.short c.requires.text, length-lines-le bytes, c.requires.short)
 
-pub returns-in-Ok-clause-wrote : goal.returns-in-Ok-clause-wrote
-returns-in-Ok-clause-wrote g c tallies =
+pub returns-in-Ok-clause-leaves : goal.returns-in-Ok-clause-leaves
+returns-in-Ok-clause-leaves g c tallies =
     let bytes = c.args.bytes.now in
     let read = read_of c.args.read.now in
     let judged = rw c.text_from-answer.ensures at c.in-Ok.ensures.judged in
-    let wrote = rw c.status_by.ensures at c.write.ensures.wrote in
+    let wrote = rw c.status_by.ensures at c.write.ensures in
     wrote_verdict tallies bytes read c.in-Ok.verdict _ _ _ _ _ _ (check_accepted bytes read c.requires.accepted c.in-Ok.ensures.few) judged c.verdict_lines-lines.ensures.right wrote
 
 pub returns-in-Err-BadAnswer-clause-stop : goal.returns-in-Err-BadAnswer-clause-stop

@@ -3,7 +3,7 @@ use Rattle.std.proofs.lemmas.Result.{err_from_is_err_and}
 use Rattle.sm_reader.specs.InstanceText.{read_of}
 use Rattle.sm_words.specs.Jobs.{job_of}
 use Rattle.sm_top.specs.Outcome.{IsOwnRefusal, IsRefused, by_job}
-use Rattle.sm_top.proofs.RunLemmas.{stops_for, err_stops_for}
+use Rattle.sm_serve.proofs.RunLemmas.{stops_for, err_stops_for}
 use Rattle.sm_top.proofs.RefusingLemmas.{few_lines}
 use Rattle.sm_top.proofs.KindLemmas.{two_refused, two_accepted, two_not_taken}
 use Rattle.sm_top.proofs.performing.perform.Goals as goal
@@ -26,13 +26,13 @@ perform_on_two-requires-clause-few g c = λ takes.
     let kept = c.deref.ensures.value ∙ c.text_for-behind.ensures takes in
     rw (given.read, kept) (few_lines job c.args.bytes.items (read_of c.args.reading.now.read.now) c.requires.short ok)
 
-pub returns-in-Two-clause-wrote : goal.returns-in-Two-clause-wrote
-returns-in-Two-clause-wrote g c =
+pub returns-in-Two-clause-leaves : goal.returns-in-Two-clause-leaves
+returns-in-Two-clause-leaves g c =
     let given = c.in_ok-given-in-Two.ensures in
     let job = job_of c.args.job.now in
     let bytes = c.args.bytes.items in
     let ok = two_accepted job bytes (read_of c.args.reading.now.read.now) c.in-Two.instance c.requires.reads (sym c.takes_rooms_alone.ensures ∙ c.if-takes_rooms_alone.false) c.in-Two.is given.instance.two_sided c.requires.accepted given.none in
-    rw (← given.form) (c.perform_on_two.ensures.wrote bytes (λ takes. c.deref.ensures.value ∙ c.text_for-behind.ensures takes) (rw given.read ok))
+    rw (← given.form) (c.perform_on_two.ensures.leaves bytes (λ takes. c.deref.ensures.value ∙ c.text_for-behind.ensures takes) (rw given.read ok))
 
 pub returns-in-Two-clause-stop : goal.returns-in-Two-clause-stop
 returns-in-Two-clause-stop g c =
@@ -44,8 +44,8 @@ returns-in-Two-clause-stop g c =
     let stop = c.perform_on_two.ensures.stop bytes (λ takes. c.deref.ensures.value ∙ c.text_for-behind.ensures takes) in
     err_stops_for (λ word. ⊥) (λ word. ⊥) (IsOwnRefusal job bytes read) (IsRefused job bytes) ⊥ ⊥ c.perform_on_two.result (λ word h. h) (λ refusal own. by_job read ok own) (λ h. h) (rw given.read at stop)
 
-pub returns-clause-wrote : goal.returns-clause-wrote
-returns-clause-wrote g c = c.perform_on_persons.ensures.wrote c.args.bytes.items _ c.requires.accepted
+pub returns-clause-leaves : goal.returns-clause-leaves
+returns-clause-leaves g c = c.perform_on_persons.ensures.leaves c.args.bytes.items _ c.requires.accepted
 
 pub returns-clause-stop : goal.returns-clause-stop
 returns-clause-stop g c = c.perform_on_persons.ensures.stop c.args.bytes.items c.requires.accepted

@@ -8,10 +8,10 @@ check_answer-requires-clause-accepted g c =
     let is = is_check (job_of c.args.job.now) (sym c.judges_answer.ensures ∙ c.if-judges_answer.true) in
     rw c.deref-then-judges_answer.ensures.value (rw c.deref.ensures.value at (rw is at c.in_ok-read.ensures.read))
 
-pub returns-then-judges_answer-clause-wrote : goal.returns-then-judges_answer-clause-wrote
-returns-then-judges_answer-clause-wrote g c =
+pub returns-then-judges_answer-clause-leaves : goal.returns-then-judges_answer-clause-leaves
+returns-then-judges_answer-clause-leaves g c =
     let is = is_check (job_of c.args.job.now) (sym c.judges_answer.ensures ∙ c.if-judges_answer.true) in
-    rw is (rw c.deref-then-judges_answer.ensures.value at (c.check_answer.ensures.wrote []))
+    rw is (rw c.deref-then-judges_answer.ensures.value at (c.check_answer.ensures.leaves []))
 
 pub returns-then-judges_answer-clause-stop : goal.returns-then-judges_answer-clause-stop
 returns-then-judges_answer-clause-stop g c =

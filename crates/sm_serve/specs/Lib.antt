@@ -1,0 +1,10 @@
+pub mod Texts
+pub mod Refusals
+pub mod Input
+pub mod Statuses
+pub mod Stops
+pub mod Unsaid
+pub mod Wrote
+pub mod Running
+pub mod Steps
+pub mod Saying
