@@ -1,7 +1,7 @@
 """Writes the wheel of the module, for `pip install ./python` and for tools/packages. It needs nothing beside Python.
 
-The wheel has the released program, the script `matchbench` as a command, and the manual page, where ../release is whole and of the
-sources as they are; else it has the module alone.
+The wheel has the released programs, the script as the commands `matchbench` and `matchtrim`, and the manual pages, where ../release
+is whole and of the sources as they are; else it has the module alone.
 """
 import base64
 import hashlib
@@ -13,6 +13,7 @@ import zipfile
 
 HERE = os.path.dirname(os.path.realpath(__file__))
 TOP = os.path.dirname(HERE)
+PROGRAMS = ('matchbench', 'matchtrim')
 PLATFORM = 'manylinux_2_34_x86_64'
 
 
@@ -40,7 +41,7 @@ def has_release():
     except OSError as fault:
         said = str(fault)
     if not said.startswith('current'):
-        print(f'matchbench: the wheel lacks the program; {said}', file=sys.stderr)
+        print(f'matchbench: the wheel lacks the programs; {said}', file=sys.stderr)
     return said.startswith('current')
 
 
@@ -79,12 +80,14 @@ def build_wheel(wheel_directory, config_settings=None, metadata_directory=None):
     parts = [(f'matchbench/{it}', read('python', 'matchbench', it), False) for it in files_of_module()]
     is_whole = has_release()
     if is_whole:
-        data, page = f'matchbench-{number}.data', read('docs', 'matchbench.1')
-        parts += [(f'{data}/scripts/matchbench', read('matchbench'), True),
-                  (f'{data}/data/share/man/man1/matchbench.1', page, False),
-                  (f'{data}/data/libexec/matchbench/matchbench.1', page, False)]
-        for it in ('matchbench', 'BUILT', 'SHA256SUMS'):
-            parts.append((f'{data}/data/libexec/matchbench/{it}', read('release', it), it == 'matchbench'))
+        data = f'matchbench-{number}.data'
+        for it in PROGRAMS:
+            page = read('docs', f'{it}.1')
+            parts += [(f'{data}/scripts/{it}', read('matchbench'), True),
+                      (f'{data}/data/share/man/man1/{it}.1', page, False),
+                      (f'{data}/data/libexec/matchbench/{it}.1', page, False)]
+        for it in (*PROGRAMS, 'BUILT', 'SHA256SUMS'):
+            parts.append((f'{data}/data/libexec/matchbench/{it}', read('release', it), it in PROGRAMS))
     return wheel_of(wheel_directory, parts, not is_whole)
 
 

@@ -73,10 +73,15 @@ def fitting(lines: Sequence[str]) -> Sequence[str]:
     return lines if len(lines) <= MOST_LINES else [*lines[:MOST_LINES - 1], f'and {len(lines) - MOST_LINES + 1} more']
 
 
+def moves_of(rotation: Any, between: str) -> List[str]:
+    """The moves of a rotation in words, with something between each proposer and where it goes."""
+    return [f'{p}{between}{old.reviewer} to {new.reviewer}' if old.reviewer != new.reviewer else
+            f'{p}{between}seat {old.number} to seat {new.number} of {new.reviewer}' for p, old, new in rotation.moves()]
+
+
 def of_rotation(rotation: Any) -> Box:
     """The box of a rotation, with its moves."""
-    moves = [f'{p}: {old.reviewer} to {new.reviewer}' if old.reviewer != new.reviewer else
-             f'{p}: seat {old.number} to seat {new.number} of {new.reviewer}' for p, old, new in rotation.moves()]
+    moves = moves_of(rotation, ': ')
     return Box([f'rotation {rotation.number}', *fitting(moves)], '\n'.join(moves), PLAIN)
 
 

@@ -2,12 +2,10 @@
 from __future__ import annotations
 
 import importlib
-from typing import Any, Dict, FrozenSet, List, Optional, Tuple, Union
+from typing import Any, Dict, FrozenSet, List, Optional
 
 from . import drawing
-
-# The room of each edge of a net, None where it has no bound.
-Rooms = Dict[Tuple[Union[str, int], Union[str, int]], Optional[int]]
+from ._nets import Rooms, first_net, second_net
 
 _networkx: Any = importlib.import_module('networkx')
 
@@ -66,40 +64,11 @@ def lattice(instance: Any, most: int) -> Graph:
 
 
 def nets(light: Any) -> List[Any]:
-    """The net of each level of a lightest matching: docs/FORMATS.md says which edges they have."""
-    instance = light.matching.instance
-    rooms = rooms_of(light.gains)
-    rooms.update({(it.number, needed): None for it in light.rotations for needed in it.needs})
-    moves = [(it.number, p, old.reviewer, new.reviewer) for it in light.rotations for p, old, new in it.moves()]
-    for pairs, is_forced in ((instance.forced, True), (instance.forbidden, False)):
-        for p, r in pairs:
-            brings = [number for number, one, old, new in moves if one == p and old != r == new]
-            takes = [number for number, one, old, new in moves if one == p and old == r != new]
-            if is_forced:
-                rooms.update({('S', it): None for it in brings})
-                rooms.update({(it, 'T'): None for it in takes})
-            elif brings or takes:
-                rooms[(brings or ['S'])[0], (takes or ['T'])[0]] = None
+    """The net of each level of a lightest matching."""
+    rooms = first_net(light.matching.instance, light.rotations, light.gains)
     if light.second is None:
         return [net(rooms, light)]
-    # The second net has the changes that the first flow leaves open.
-    second, flow = rooms_of(light.second.gains), {(it.source, it.target): it.amount for it in light.flow}
-    for (tail, head), room in rooms.items():
-        amount = flow.get((tail, head), 0)
-        if room is None or amount < room:
-            second[tail, head] = None
-        if amount and tail != 'S' and head != 'T':
-            second[head, tail] = None
-    return [net(rooms, light), net(second, light.second)]
-
-
-def rooms_of(gains: Any) -> Rooms:
-    """The edges of the gains."""
-    rooms: Rooms = {}
-    for it, gain in enumerate(gains, 1):
-        if gain:
-            rooms['S' if gain < 0 else it, it if gain < 0 else 'T'] = abs(gain)
-    return rooms
+    return [net(rooms, light), net(second_net(rooms, light.flow, light.second.gains), light.second)]
 
 
 def net(rooms: Rooms, level: Any) -> Any:

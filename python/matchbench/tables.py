@@ -46,33 +46,47 @@ def words_of(options: Mapping[str, Any]) -> List[str]:
     return words
 
 
-def run(name: str, *words: str) -> str:
-    """What a tool writes. What it tells goes to standard error, or is raised as a ValueError where it fails."""
+def run(name: str, *words: str, folder: str = '') -> str:
+    """What a tool writes. What it tells goes to standard error, or is raised as a ValueError where it fails. Files in a folder that
+    lasts no longer are named without that.
+    """
     from . import find_program
     done = subprocess.run([sys.executable, '-B', tool(name), *words], stdout=subprocess.PIPE, stderr=subprocess.PIPE,
                           env={**os.environ, 'MATCHBENCH': find_program()})
     told = done.stderr.decode(errors='replace')
+    told = told.replace(folder + os.sep, '') if folder else told
     if done.returncode:
-        raise ValueError(told.strip() or f'{name} ended with status {done.returncode}')
+        # Before the fault itself stands how the tool is called.
+        told = told.strip().split('\n')[-1] if told.startswith('usage:') else told.strip()
+        raise ValueError(told or f'{name} ended with status {done.returncode}')
     sys.stderr.write(told)
     return done.stdout.decode()
 
 
-def from_tables(from_text: Callable[..., Any], given: List[Any], names: Optional[str], options: Mapping[str, Any]) -> Any:
+def from_tables(from_text: Callable[..., Any], given: Dict[str, Any], names: Optional[str], options: Mapping[str, Any]) -> Any:
     """The instance of tables."""
     with tempfile.TemporaryDirectory() as folder:
-        def path_of(table: Any, word: str) -> str:
+        def path_of(word: str, table: Any) -> Any:
             if not hasattr(table, 'to_csv'):
-                return str(os.fspath(table))
+                return table
             path = os.path.join(folder, f'{word}.csv')
-            table.to_csv(path, index=False)
+            write_frame(table, path)
             return path
 
-        paths = [path_of(it, f'table {number}') for number, it in enumerate(given)]
-        others = {name: path_of(it, name) if hasattr(it, 'to_csv') else it for name, it in options.items()}
+        paths = [str(os.fspath(path_of(word, it))) for word, it in given.items()]
+        others = {word: path_of(word, it) for word, it in options.items()}
         names = os.path.join(folder, 'names.csv') if names is None else names
-        text = run('from_csv', *paths, '--names', names, *words_of(others))
+        text = run('from_csv', *paths, '--names', names, *words_of(others), folder=folder)
         return from_text(text, names)
+
+
+def write_frame(frame: Any, path: str) -> None:
+    """Writes a `pandas.DataFrame` as a table: with its index, if that isn't a mere numbering, and whole numbers as such, also where
+    empty cells made pandas take the column for one of fractions.
+    """
+    name = frame.index.name
+    is_numbering = name is None and list(frame.index) == list(range(len(frame.index)))
+    frame.convert_dtypes().to_csv(path, index=not is_numbering, index_label='name' if name is None else name)
 
 
 def originals(path: str) -> Dict[str, Dict[str, str]]:
@@ -107,7 +121,7 @@ def explore(instance: Any, path: Optional[str], options: Mapping[str, Any]) -> P
         with open(text, 'w', encoding='utf-8', errors='surrogateescape', newline='') as file:
             file.write(instance.to_text())
         write_names(instance, names)
-        page = Page(run('explore', text, '--names', names, *words_of(options)))
+        page = Page(run('explore', text, '--names', names, *words_of(options), folder=folder))
     if path is not None:
         with open(path, 'w', encoding='utf-8') as file:
             file.write(page.text)

@@ -5,9 +5,11 @@ Nothing here is a dependency: networkx and pandas are wanted by the methods that
 from __future__ import annotations
 
 import importlib
+import json
 import os
 import re
-from typing import Any, Dict, Mapping, Optional, Type, TypeVar
+from functools import cached_property
+from typing import Any, Dict, Mapping, Optional, Tuple, Type, TypeVar, Union, cast
 
 from . import drawing, tables
 
@@ -86,8 +88,37 @@ class InstanceViews:
         ImportError where the tools are missing.
         """
         kind: Any = cls
-        made: Kind = tables.from_tables(kind.from_text, [it for it in (proposers, reviewers) if it is not None], names, options)
+        given = {'persons': proposers} if reviewers is None else {'proposers': proposers, 'reviewers': reviewers}
+        made: Kind = tables.from_tables(kind.from_text, given, names, options)
         return made
+
+    @classmethod
+    def from_json(cls: Type[Kind], given: Union[str, bytes, Mapping[str, Any]]) -> Kind:
+        """The instance of JSON in the form of docs/FORMATS.md, or of its value, as `json.loads` gives it. Any strings may be names.
+        Doesn't start the program. Raises ValueError where this is no instance in JSON.
+        """
+        value, kind = json.loads(given) if isinstance(given, (str, bytes)) else given, cast(Any, cls)
+        try:
+            importlib.import_module('._json', __package__).look_at(value)
+            made: Kind = kind._of_value(value)
+        except TypeError as fault:
+            raise ValueError(f'no instance in JSON: {fault}') from None
+        return made
+
+    @cached_property
+    def trimmed(self) -> Any:
+        """Where the seats are more than the program takes: the instance with lists that were cut at their ends, about which the
+        program is asked; else None. It has the same stable matchings. The first look at it warns.
+        """
+        return importlib.import_module('._trim', __package__).trimmed(self)
+
+    @classmethod
+    def _trimmed_of(cls, text: str, originals: Mapping[str, Mapping[str, str]], fault: Exception) -> Any:
+        return importlib.import_module('._trim', __package__).read(cls, text, originals, fault)
+
+    def _wrong(self, reason: str, answer: Any) -> Tuple[str, Optional[Tuple[Any, Any]]]:
+        told: Tuple[str, Optional[Tuple[Any, Any]]] = importlib.import_module('._wrong', __package__).told(self, reason, answer)
+        return told
 
     @staticmethod
     def _originals(names: str) -> Mapping[str, Mapping[str, str]]:

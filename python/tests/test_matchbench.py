@@ -26,6 +26,7 @@ for folder in ('python', 'tools', os.path.join('tools', 'tests')):
 
 import brute  # noqa: E402
 import matchbench  # noqa: E402
+import matchbench._program  # noqa: E402
 from matchbench import (Couples, Failed, Instance, Matching, NoMatching, NotStable, ProgramMissing, Refused,  # noqa: E402
                         Seat)
 from shared.names import sound_names  # noqa: E402
@@ -64,6 +65,65 @@ WRONG_JSON = {
 PROPOSERS = ['Zoë', 'Zoe', 'Müller, Ann', 'Иван', 'p4', '']
 TWO = {'m1': ['a', 'b'], 'm2': ['b', 'a']}, {'a': ['m2', 'm1'], 'b': ['m1', 'm2']}
 ODD = {'ann': ['ben', 'cem', 'dan'], 'ben': ['cem', 'ann', 'dan'], 'cem': ['ann', 'ben', 'dan'], 'dan': ['ann', 'ben', 'cem']}
+# What is told of the stored inputs of `check`.
+SENTENCES = {
+    'blocked': 'm2 and b would both rather have one another',
+    'cut_differs': 'the cut is 4 and the value 3, so it isn\'t shown that nothing is lighter',
+    'no_edge': 'the net has no edge from S to rotation 1',
+    'no_odd_party': 'the parties have 4 members: none is odd with three or more',
+    'not_a_matching': 'm2 can\'t be with a, since a is with m1',
+    'not_allowed': 'm1 and b aren\'t together in this matching, and are forced',
+    'not_best': 'the matching is stable, but in the proposers\' best m1 is with a, and not with b',
+    'not_closed': 'rotation 2 needs rotation 1, which isn\'t taken',
+    'not_conserved': '3 flows into rotation 2 and 4 out of it',
+    'not_exposed': 'rotation 1 moves m1 from a to b and m2 from b to a, and is written from m1 on',
+    'not_least': 'the flow doesn\'t reach rotation 1, and it is taken',
+    'not_partition': '1 would rather have 2, who stands before it in its party, than 3, who follows',
+    'not_rising': 'this vector stands before the vector above in the order: m1 has the rank 2 here, and 3 there',
+    'over_limit': 'the limit is 1, and this is vector 2',
+    'over_room': 'the edge from S to rotation 2 has room for 14, and not for 18,446,744,073,709,551,615',
+    'rotation_missing': 'rotation 1 is missing, which moves m1 from a to b and m2 from b to a',
+    'wrong_cut': 'the cut of the taken rotations is 14, and not 4',
+    'wrong_gain': 'rotation 1 adds 4 to the sum, and not 3',
+    'wrong_list': 'the reduced list of a has m2 at place 1, and not m1',
+    'wrong_needs': 'rotation 2 needs 1, and not none',
+    'wrong_pair': 'm1 is with c in the right matching, and not with b',
+    'wrong_regret': 'the regret is 2, since b is choice 2 of m1, and not 3',
+    'wrong_tail': 'the list is broken off behind 1 of 2 vectors',
+    'wrong_total': 'the sum of the matching is -10, and not -9',
+    'wrong_value': '4 flows out of S, and not 5',
+}
+# Answers on two hospitals with odd names, from the line on that is wrong, or on the whole; each with what is told of it.
+WARDS = ({'Zoë': ['x y', 'Дом'], 'Ólafur': ['x y', 'Дом'], 'Cem': ['Дом']},
+         {'x y': ['Ólafur', 'Zoë', 'Cem'], 'Дом': ['Cem', 'Zoë']}, {'x y': 2, 'Дом': 1})
+SEATS = 'first Zoe x_y/2\nfirst Olafur x_y/1\nfirst Cem r2/1\n'
+IN_WARDS = {
+    'solve side=proposers\npair Zoe x_y\npair Olafur r2\nend': 'Ólafur can\'t be with Дом, since Дом doesn\'t list Ólafur',
+    'solve side=reviewers\npair Zoe x_y\npair Zoe x_y\nend': 'Zoë and x y stand there twice',
+    'solve side=reviewers\npair Zoe x_y\npair Olafur x_y\nend': 'Cem and Дом would both rather have one another',
+    'regret\nregret 3\npair Zoe x_y\npair Olafur x_y\npair Cem r2\nend':
+        'the regret is 2, since Zoë is choice 2 of x y, and not 3',
+    'reduced\nfirst Zoe x_y/1\nfirst Olafur x_y/1\nend': 'Ólafur can\'t have seat 1 of x y, since Zoë has it',
+    'rotations\nfirst Zoe x_y/1\nfirst Olafur x_y/2\nfirst Cem r2/1\nend':
+        'Ólafur and seat 1 of x y would both rather have one another',
+    f'reduced\n{SEATS}end': 'Zoë and x y would both rather have one another',
+    f'reduced\n{SEATS}{SEATS.replace("first", "last")}proposer Zoe x_y/1\nend':
+        'the reduced list of Zoë has seat 2 of x y at place 1, and not seat 1 of x y',
+    f'reduced\n{SEATS}{SEATS.replace("first", "last")}proposer Zoe -\nend':
+        'the reduced list of Zoë has seat 2 of x y at place 1, where this one ends',
+    f'reduced\n{SEATS}{SEATS.replace("first", "last")}reviewer x_y/2 Zoe Cem\nend':
+        'the reduced list of seat 2 of x y ends before Cem',
+    f'reduced\n{SEATS}{SEATS.replace("first", "last")}end': 'Zoë has no list',
+    f'rotations\n{SEATS}rotation 1 Zoe x_y/2 Olafur x_y/1\nneeds 1 -\nend': 'there is no rotation 1: here none is exposed',
+    'list limit=5\nvector 4,1,1\nend': 'Zoë has the rank 4, and its ranks go to 2, with 3 for being alone',
+    'list limit=5\nvector 1,2,2\nend': 'Ólafur can\'t be with Дом, since Дом doesn\'t list Ólafur',
+    'list limit=5\nvector 1,1,2\nend': 'Cem and Дом would both rather have one another',
+    'list limit=5\nvector 1,1,1\nvector 1,1,1\nend': 'this is the vector above again',
+    'list after=1,1,1 limit=5\nvector 1,1,1\nend': 'this is the cursor again',
+    'list after=1,2,1 limit=5\nvector 1,1,1\nend':
+        'this vector stands before the cursor in the order: Ólafur has the rank 1 here, and 2 there',
+    'list limit=1\nvector 1,1,1\nmore 1,1,2': 'the last vector is 1,1,1, and not 1,1,2',
+}
 REVIEWERS = ['City Hospital', "St. John's", 'Дом 5', 'west', '-', 'r#']
 
 try:
@@ -484,21 +544,24 @@ class Examples(unittest.TestCase):
     @asks
     def test_answers(self):
         """The stored inputs of `check`: where a pair is at fault, it is named, and who blocks."""
-        named = {'blocked': ('m2 and b would both rather have one another', ('m2', 'b')),
-                 'not_a_matching': ('m2 can\'t be with a, since a is with m1', None),
-                 'not_best': ('the matching is stable, but in the proposers\' best m1 is with a, and not with b', None)}
         paths = glob.glob(os.path.join(TOP, 'examples', 'verdicts', '*.txt'))
         self.assertEqual(len(paths), len(matchbench.VERDICTS))
+        self.assertEqual(len(SENTENCES), len(paths))
         for path in paths:
             name = os.path.basename(path)[:-len('.txt')]
             text = example(os.path.join('verdicts', name + '.txt'))
             at = re.search(r'^end.*\n', text, re.M).end()
             verdict = Instance.from_text(text[:at]).check(text[at:])
             self.assertEqual(verdict.text, example(os.path.join('verdicts', name + '.check')))
-            told = named.get(name, (matchbench.VERDICTS[verdict.reason], None))
-            self.assertEqual((verdict.sentence, verdict.blocking), told, name)
+            self.assertEqual((verdict.sentence, verdict.blocking), (SENTENCES[name], ('m2', 'b') if name == 'blocked' else None))
             self.assertEqual(verdict.line_text, text.split('\n')[verdict.line - 1])
         two = Instance.marriage(*TWO)
+        for answer, told in (('solve side=proposers\npair m1 a\npair m2 a\nend', 'm2 can\'t be with a, since a is with m1'),
+                             ('rotations\nfirst m1 a\nfirst m2 b\nend',
+                              'rotation 1 is missing, which moves m1 from a to b and m2 from b to a')):
+            for text in (f'answer {answer}\n', f'answer {answer}', f'answer {answer}\n'.replace('\n', '\r\n')):
+                verdict = two.check(text)
+                self.assertEqual((verdict.sentence, verdict.line_text), (told, answer.split('\n')[verdict.line - 7]))
         for answer, pair in (('answer list limit=1\nvector 1,3\nend\n', ('m2', 'b')),
                              ('answer regret\nregret 0\nend\n', ('m1', 'a')),
                              ('answer meet\nleft m1 a\nleft m2 b\nright m1 b\npair m1 a\npair m2 b\nend\n', ('m1', 'a')),
@@ -506,6 +569,84 @@ class Examples(unittest.TestCase):
                              ('answer reduced\nfirst m1 a\nfirst m2 b\nlast m2 a\nend\n', ('m1', 'b'))):
             verdict = two.check(answer)
             self.assertEqual((verdict.reason, verdict.blocking), ('Blocked', pair), answer)
+
+    @asks
+    def test_wards(self):
+        """Agents have their own names, and seats are named where they matter."""
+        instance = Instance.hospitals(*WARDS)
+        for answer, told in IN_WARDS.items():
+            self.assertEqual(instance.check(f'answer {answer}\n').sentence, told, answer)
+        verdict = instance.check('answer rotations\nfirst Zoe x_y/1\nfirst Olafur x_y/2\nfirst Cem r2/1\nend\n')
+        self.assertEqual(verdict.blocking, ('Ólafur', Seat('x y', 1)))
+
+    @asks
+    def test_levels(self):
+        """Each level of weights, and each condition."""
+        given = Instance.from_text(example('two_levels.txt'))
+        answer = given.weight('given').text
+        for old, new, told in (
+                ('gain2 1 1', 'gain2 1 2', 'rotation 1 adds 1 to the second sum, and not 2'),
+                ('flow2 S 2 1', 'flow2 S 2 4', 'the edge from S to rotation 2 has room for 3, and not for 4'),
+                ('flow2 S 2 1', 'flow2 S 1 1', 'the second net has no edge from S to rotation 1'),
+                ('flow2 1 T 1', 'flow2 S 2 1', 'the edge from S to rotation 2 has a line above'),
+                ('flow2 S 2 1', 'flow2 S 2 0', 'the amount 0 that flows from S to rotation 2 isn\'t positive'),
+                ('flow2 S 2 1', 'flow2 S 2 2', '2 flows into rotation 2 and 1 out of it in the second net'),
+                ('taken 1 2', 'taken 1 2 3', 'there is no rotation 3'),
+                ('value2 1', 'value2 2', '1 flows out of S, and not 2'),
+                ('cut2 1', 'cut2 0', 'the cut of the taken rotations is 1, and not 0'),
+                ('total2 -2', 'total2 2', 'the second sum of the matching is -2, and not 2'),
+                ('pair m1 c\n', '', 'the pair of m1 and c is missing'),
+                ('pair m2 a', 'pair m1 c', 'm1 has a pair above')):
+            self.assertIn(old, answer)
+            self.assertEqual(given.check(answer.replace(old, new)).sentence, told)
+        lists = given.proposers, given.reviewers
+        for condition, pair, told in (('forced', ('m1', 'b'), 'm1 and b aren\'t together in {}, and are forced'),
+                                      ('forbidden', ('m1', 'c'), 'm1 and c are together in {}, and are forbidden')):
+            bound = Instance.marriage(*lists, **{condition: [pair]})
+            regret = 'answer regret\nregret 3\npair m1 c\npair m2 a\npair m3 b\nend\n'
+            self.assertEqual(bound.check(regret).sentence, told.format('this matching'))
+            light = Instance.marriage(*lists).weight('given').text.replace('taken -', 'taken 1 2')
+            self.assertEqual(bound.check(light).sentence, told.format('the matching of the taken rotations'))
+
+    @asks
+    def test_parties(self):
+        """What is wrong with parties."""
+        lists = {'a': ['b', 'c', 'd'], 'b': ['c', 'a', 'd'], 'c': ['a', 'b', 'd'], 'd': ['a', 'b', 'c'], 'e': []}
+        rooms = Instance.roommates(lists)
+        for parties, told in (('a b c,d,b', 'b stands twice in the parties'), ('a b c,d', 'e stands in no party'),
+                              ('a b c,d e', 'e follows d in a party, and d doesn\'t list e'),
+                              ('a c b,d,e', 'a would rather have b, who stands before it in its party, than c, who follows'),
+                              ('a d,b c,e', 'a and c would both rather have one another than those who stand before them in their '
+                                            'parties')):
+            answer = ['answer solve', 'none', *(f'party {it}' for it in parties.split(',')), 'end', '']
+            self.assertEqual(rooms.check('\n'.join(answer)).sentence, told)
+
+    @asks
+    def test_changed_answers(self):
+        """Lines of answers are changed in any way: what is told is never the general text."""
+        seen = set()
+        for seed in range(150):
+            draw = random.Random(seed)
+            instance = Instance.make(draw.choice(('random', 'hospitals')), 9, seed)
+            answer = draw.choice((instance.reduced, instance.rotations, instance.regret, instance.weight, instance.solve))().text
+            lines = answer.splitlines()
+            place = draw.randrange(1, len(lines))
+            words, numbered = lines[place].split(' '), [it for it in range(1, len(lines)) if lines[it][-1].isdigit()]
+            if seed % 3 == 0 and words[-1].lstrip('-').isdigit():
+                lines[place] = ' '.join([*words[:-1], str(int(words[-1]) + draw.choice((-1, 1)))])
+            elif seed % 3 == 1:
+                one, other = draw.choice(numbered or [place]), draw.choice(numbered or [place])
+                lines[one], lines[other] = lines[other], lines[one]
+            else:
+                del lines[place]
+            try:
+                verdict = instance.check('\n'.join([*lines, '']))
+            except Refused:
+                continue
+            self.assertNotIn(verdict.sentence, matchbench.VERDICTS.values())
+            self.assertTrue(verdict.sentence)
+            seen.add(verdict.reason)
+        self.assertGreater(len(seen), 4)
 
     @asks
     def test_make(self):
@@ -671,6 +812,22 @@ class Names(unittest.TestCase):
                 (lambda: Instance.marriage({'ann': ['art', 'art']}, r), ValueError, "'art' stands twice on the list of 'ann'"),
                 (lambda: Instance.marriage({'ann': 'art'}, r), TypeError,
                  "the list of 'ann' is 'art', and not a list of names, best first"),
+                (lambda: Instance.marriage({'ann': [None, 'art']}, r), ValueError,
+                 "None in the list of 'ann' is no name: leave out what is empty"),
+                (lambda: Instance.marriage({'ann': [' Art']}, r), ValueError,
+                 "' Art' in the list of 'ann' is none of the reviewers; is 'art' meant?"),
+                (lambda: Instance.marriage({7: ['art']}, {'art': ['7']}), ValueError,
+                 "'7' in the list of 'art' is none of the proposers; is 7 meant?"),
+                (lambda: Instance.marriage({'ann': float('nan')}, r), TypeError,
+                 "the list of 'ann' is nan, and not a list of names, best first"),
+                (lambda: Instance.marriage(None, r), TypeError, 'the proposers are None, and not a dict or a list'),
+                (lambda: Instance(p, r), TypeError,
+                 'Instance.marriage, Instance.hospitals and Instance.roommates make instances of lists'),
+                (lambda: Instance.marriage(p, r, forced=['ax']), TypeError, "'ax' in the forced pairs is no pair"),
+                (lambda: Instance.marriage(p, r, forbidden=7), TypeError,
+                 '7 is given for the forbidden pairs, and not a dict or pairs'),
+                (lambda: Instance.marriage(p, r, weights={'ann': {'art': 1}}), TypeError, "'ann' in the weights is no pair"),
+                (lambda: Instance.marriage(p, r).check_matching(['ann', 'art']), TypeError, "'ann' in the matching is no pair"),
                 (lambda: Instance.marriage({None: []}, r), TypeError, 'None is no name: it stands for being alone'),
                 (lambda: Instance.marriage({'ann': {'art': 1}}, r), TypeError,
                  "the list of 'ann' is {'art': 1}, and not a list of names, best first"),
@@ -710,6 +867,10 @@ class Names(unittest.TestCase):
                 make()
             self.assertEqual(str(caught.exception), told)
         self.assertRaises(TypeError, Instance.marriage, p, r, weights={('ann', 'art'): 1.5})
+        # Rows that were filled up, and pairs by a dict.
+        filled = Instance.marriage({'ann': ['art', 'biology', None, float('nan')]}, {'art': ('ann', None), 'biology': [None]},
+                                   forced={'ann': 'art'})
+        self.assertEqual(filled, Instance.marriage(p, r, forced=[('ann', 'art')]))
 
     def test_tables(self):
         with open(os.path.join(TOP, 'docs', 'FORMATS.md'), encoding='utf-8') as file:
@@ -760,7 +921,7 @@ class Programs(unittest.TestCase):
         named = os.environ['MATCHBENCH']
         self.assertEqual(matchbench.find_program(), named)
         with mock.patch.dict(os.environ, {'MATCHBENCH': '', 'PATH': self.folder}), \
-                mock.patch.object(matchbench, '__file__', os.path.join(self.folder, 'python', 'matchbench.py')):
+                mock.patch.object(matchbench._program, '__file__', os.path.join(self.folder, 'python', 'matchbench', 'it.py')):
             with self.assertRaises(ProgramMissing) as caught:
                 self.instance.solve()
             self.assertIn('builds it', str(caught.exception))
@@ -772,14 +933,14 @@ class Programs(unittest.TestCase):
 
     def test_released(self):
         """The released program of the repository is found, and isn't called if its checksum is wrong."""
-        self.program('[ $# -gt 0 ] || echo usage 1\n')
+        self.program('[ "$*" != - ] || echo usage 1\n')
         named = os.environ['MATCHBENCH']
         path = os.path.join(os.path.realpath(self.folder), 'release', 'matchbench')
         os.mkdir(os.path.dirname(path))
         with open(named, 'rb') as file, open(os.path.join(os.path.dirname(path), 'SHA256SUMS'), 'w', encoding='ascii') as sums:
             sums.write(f'{hashlib.sha256(file.read()).hexdigest()}  matchbench\n')
         with mock.patch.dict(os.environ, {'MATCHBENCH': '', 'PATH': self.folder}), \
-                mock.patch.object(matchbench, '__file__', os.path.join(self.folder, 'python', 'matchbench', '__init__.py')):
+                mock.patch.object(matchbench._program, '__file__', os.path.join(self.folder, 'python', 'matchbench', 'it.py')):
             with open(path, 'wb') as file:
                 file.write(b'another one')
             with self.assertRaises(ProgramMissing) as caught:

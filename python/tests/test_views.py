@@ -2,6 +2,7 @@
 import contextlib
 import io
 import os
+import pickle
 import random
 import re
 import shutil
@@ -10,6 +11,7 @@ import sys
 import tempfile
 import types
 import unittest
+import warnings
 import xml.etree.ElementTree
 from unittest import mock
 
@@ -18,7 +20,7 @@ TOP = os.path.join(HERE, '..', '..')
 sys.path.insert(0, os.path.join(TOP, 'python'))
 
 import matchbench  # noqa: E402
-from matchbench import Instance, NoMatching, ProgramMissing, drawing, tables  # noqa: E402
+from matchbench import Instance, NoMatching, ProgramMissing, Refused, _trim, drawing, tables, testing  # noqa: E402
 
 try:
     matchbench.find_program()
@@ -46,6 +48,22 @@ def example(name):
 def texts(picture):
     """The texts of a picture, which has to be XML."""
     return [it.text for it in xml.etree.ElementTree.fromstring(picture).iter('{http://www.w3.org/2000/svg}text')]
+
+
+class Frame:
+    """What is asked of a frame, for a table in a file."""
+
+    index = types.SimpleNamespace(name='Name')
+
+    def __init__(self, path):
+        self.path = path
+
+    def convert_dtypes(self):
+        return self
+
+    def to_csv(self, path, index, index_label):
+        assert index and index_label == 'Name'
+        shutil.copyfile(self.path, path)
 
 
 @asks
@@ -226,9 +244,51 @@ class Tools(unittest.TestCase):
         instance.write_names(written)
         with open(names, encoding='utf-8') as one, open(written, encoding='utf-8') as other:
             self.assertEqual(one.read(), other.read())
-        frames = [types.SimpleNamespace(to_csv=lambda path, index, it=it: shutil.copyfile(it, path)) for it in (pupils, schools)]
         with contextlib.redirect_stderr(io.StringIO()):
-            self.assertEqual(Instance.from_tables(*frames, skip='Age'), instance)
+            self.assertEqual(Instance.from_tables(*map(Frame, (pupils, schools)), skip='Age'), instance)
+
+    @asks
+    def test_frames(self):
+        """An index isn't lost, and whole numbers stay whole. What is told names tables and not files."""
+        pandas = found('pandas')
+        if pandas is None:
+            self.skipTest('pandas is missing')
+        pupils = pandas.DataFrame({'pupil': [1, 2, 3], 'first': [10, 10, 11], 'second': [11, None, None]})
+        schools = pandas.DataFrame({'school': [10, 11], 'capacity': [1.0, 2.0], 'best': [2, 1], 'next': [1, None]})
+        by_index = [pupils.set_index('pupil'), schools.set_index('school')]
+        for given in ([pupils, schools], by_index, [it.rename_axis(None) for it in by_index]):
+            with contextlib.redirect_stderr(io.StringIO()) as told:
+                instance = Instance.from_tables(*given)
+            self.assertEqual(instance.solve().partners(), {'1': '11', '2': '10', '3': None})
+            self.assertIn('from_csv: proposers.csv has 3 agents', told.getvalue())
+        for options, told in (({'order': 'none'}, 'none'),
+                              ({'rank': 'both'}, 'from_csv: error: unrecognized arguments: --rank both')):
+            with self.assertRaises(ValueError) as caught:
+                Instance.from_tables(pupils, schools, **options)
+            self.assertIn(told, str(caught.exception))
+            self.assertNotIn(tempfile.gettempdir(), str(caught.exception))
+
+    def test_series(self):
+        """What pandas has for dicts and lists."""
+        pandas = found('pandas')
+        if pandas is None:
+            self.skipTest('pandas is missing')
+        beds = pandas.DataFrame({'name': ['x', 'y'], 'beds': [2, 1]}).set_index('name')['beds']
+        rows = pandas.DataFrame([['x', 'y'], ['y', None]], index=['a', 'b'])
+        instance = Instance.hospitals(rows.T.to_dict('list'), pandas.Series({'x': ['a'], 'y': ['b', 'a']}), beds,
+                                      weights=pandas.Series({('a', 'x'): 3}))
+        self.assertEqual(instance.to_text(),
+                         'stable 1 hospitals\np a: x y\np b: y\nr x [2]: a\nr y [1]: b a\nweight a x 3\nend\n')
+        with self.assertRaises(TypeError) as caught:
+            Instance.marriage(rows, rows)
+        self.assertEqual(str(caught.exception), 'the proposers are a table: Instance.from_tables reads tables')
+        with self.assertRaises(ValueError) as caught:
+            Instance.marriage(pandas.Series([['x'], ['x']], index=['a', 'a']), {'x': ['a']})
+        self.assertEqual(str(caught.exception), '\'a\' stands twice in the proposers')
+        if HAS_PROGRAM:
+            mine = pandas.Series({'a': 'x', 'b': None})
+            for given in (mine, mine.astype(object).where(mine.notna(), float('nan')), pandas.DataFrame(mine.dropna().items())):
+                self.assertEqual(instance.check_matching(given).blocking, ('b', 'y'))
 
     @asks
     def test_faults(self):
@@ -274,6 +334,103 @@ class Tools(unittest.TestCase):
         self.assertIn('tools/explore is missing', str(caught.exception))
 
 
+@asks
+class Trimmed(unittest.TestCase):
+    """Instances with more seats than the program takes, cut by a stand-in for `matchtrim`."""
+
+    def setUp(self):
+        folder = tempfile.TemporaryDirectory()
+        self.addCleanup(folder.cleanup)
+        self.calls = os.path.join(folder.name, 'calls')
+        path = os.path.join(folder.name, 'matchtrim')
+        with open(path, 'w', encoding='utf-8') as file:
+            file.write(f'#!/bin/sh\necho $# >>"{self.calls}"\nexec "{sys.executable}" -B "{TOP}/tools/tests/trimmed.py"\n')
+        os.chmod(path, 0o755)
+        for patch in (mock.patch.dict(os.environ, MATCHTRIM=path), mock.patch.object(_trim, 'MOST_ENTRIES', 8)):
+            patch.start()
+            self.addCleanup(patch.stop)
+
+    def warned(self, call):
+        """What a call gives, and what it warns of."""
+        with warnings.catch_warnings(record=True) as told:
+            warnings.simplefilter('always')
+            got = call()
+        return got, told
+
+    def test_answers(self):
+        """They are those of the whole instance, whose lists and text stay."""
+        cut = 0
+        for seed in range(25):
+            draw = random.Random(seed)
+            whole = testing.made('hospitals', 6, seed)
+            instance = Instance.hospitals(whole.proposers, whole.reviewers, whole.capacities)
+            instance.__dict__['trimmed'] = None
+            mine = Instance.hospitals(whole.proposers, whole.reviewers, whole.capacities)
+            best, told = self.warned(mine.solve)
+            self.assertEqual(len(told), 1)
+            self.assertEqual((told[0].filename, mine.to_text()), (__file__, instance.to_text()))
+            self.assertIn('has more entries on the lists of its seats than the program takes', str(told[0].message))
+            self.assertEqual(best.text, instance.solve().text)
+            for ask in ('rotations', 'pairs', 'regret', 'weight', 'median', 'survey'):
+                self.assertEqual(getattr(mine, ask)().text, getattr(instance, ask)().text)
+            listed = list(mine.list())
+            self.assertEqual([(it.ranks, it.partners()) for it in listed], [(it.ranks, it.partners()) for it in instance.list()])
+            other = draw.choice(listed)
+            self.assertEqual(mine.join(best, other), instance.join(best, other))
+            self.assertTrue(mine.check(mine.rotations()))
+            self.assertEqual(pickle.loads(pickle.dumps(mine)).trimmed, mine.trimmed)
+            cut += mine.trimmed != mine
+            for p, row in mine.proposers.items():
+                self.assertEqual(row[:len(mine.trimmed.proposers[p])], mine.trimmed.proposers[p])
+                for r in row[len(mine.trimmed.proposers[p]):]:
+                    if p in mine.reviewers[r]:
+                        verdict = mine.check_matching({p: r})
+                        self.assertFalse(verdict)
+                        self.assertEqual(verdict.sentence, f'{p} can\'t be with {r}, since no stable matching has the two together')
+        self.assertGreater(cut, 10)
+        with open(self.calls, encoding='ascii') as file:
+            self.assertEqual(set(file.read().split()), {'0'})
+
+    def test_fitting(self):
+        """What fits isn't trimmed, and where nothing trims the program says what it refuses."""
+        two, told = self.warned(lambda: Instance.hospitals({'Zoë': ['x']}, {'x': ['Zoë']}, {'x': 4000}))
+        self.assertEqual((two.trimmed, two.solve().partners(), told), (None, {'Zoë': 'x'}, []))
+        self.assertFalse(os.path.exists(self.calls))
+        marriage = Instance.make('random', 8, 1)
+        self.assertIsNone(marriage.trimmed)
+
+    def test_text(self):
+        """A text keeps its layout; its lists are those of what is left."""
+        names = [f'p{it}' for it in range(1100)]
+        rows = [f'p {it}: h' for it in names]
+        text = '\n'.join(['# a crowd', 'stable 1 hospitals', f'r h [1020]: {" ".join(names)}', *rows, 'end', ''])
+        instance, told = self.warned(lambda: Instance.from_text(text))
+        self.assertEqual(([it.filename for it in told], instance.to_text()), ([__file__], text))
+        self.assertEqual(instance.solve().places(), {'h': tuple(names[:1020])})
+        again = pickle.loads(pickle.dumps(instance))
+        self.assertEqual((again.solve(), again.trimmed.to_text()), (instance.solve(), instance.trimmed.to_text()))
+        self.assertTrue(instance.check_matching(instance.solve(), 'reviewers'))
+        whole, told = self.warned(lambda: Instance.hospitals({it: ['h'] for it in names}, {'h': names}, {'h': 1020}))
+        self.assertEqual((self.warned(whole.solve)[0].partners(), len(whole.reviewers['h'])), (instance.solve().partners(), 1100))
+        with self.assertRaises(Refused) as caught, mock.patch.object(_trim, 'trimmer', lambda: None):
+            Instance.from_text(text)
+        self.assertEqual((caught.exception.reason, caught.exception.line), ('TooManySeats', 3))
+        for places, trimmer in ((1020, lambda: None), (1050, _trim.trimmer)):
+            with mock.patch.object(_trim, 'trimmer', trimmer), self.assertRaises(Refused) as caught:
+                Instance.hospitals({it: ['h'] for it in names}, {'h': names}, {'h': places}).solve()
+            self.assertEqual(caught.exception.reason, 'TooManySeats')
+
+    def test_trimmer(self):
+        """The program that MATCHTRIM names, else the one on PATH."""
+        named = os.environ['MATCHTRIM']
+        self.assertEqual(_trim.trimmer(), named)
+        with mock.patch.dict(os.environ, MATCHTRIM='', PATH=os.path.dirname(named)), \
+                mock.patch.object(_trim._program, 'beside', lambda name: None):
+            self.assertEqual(_trim.trimmer(), named)
+            os.remove(named)
+            self.assertIsNone(_trim.trimmer())
+
+
 class Alone(unittest.TestCase):
     """The one file, copied."""
 
@@ -291,8 +448,16 @@ class Alone(unittest.TestCase):
         code = ('from matchbench import Instance\n'
                 f'it = Instance.marriage(*{TWO!r})\n'
                 'print(it.solve().partners(), it.check_matching(it.solve(), "proposers").right, it.weight().total)\n'
-                'print(Instance.from_json(it.to_json()) == it == Instance.from_text(it.to_text()), hasattr(it, "lattice"))\n')
-        self.assertEqual(self.run_copy(code), "{'m1': 'a', 'm2': 'b'} True 6\nTrue False\n")
+                'print(Instance.from_text(it.to_text()) == it, hasattr(it, "lattice"))\n'
+                'print(it.check_matching({"m1": "a", "m2": "a"}).sentence)\n'
+                'print(it.check_matching({}, "reviewers").sentence)\n'
+                'print(it.check_matching(it.solve(), "reviewers").sentence)\n'
+                'print(it.check("answer reduced\\nend\\n").sentence)\n'
+                'print(Instance.marriage({"Zoë": ["ß"]}, {"ß": ["Zoë"]}).solve().partners())\n')
+        self.assertEqual(self.run_copy(code), "{'m1': 'a', 'm2': 'b'} True 6\nTrue False\n"
+                         "m2 can't be with a, since a is with m1\nm1 and a would both rather have one another\n"
+                         "the matching is stable, but in the reviewers' best m1 is with b, and not with a\n"
+                         "this line isn't right: docs/FORMATS.md has the reason Blocked\n{'Zoë': 'ß'}\n")
 
     def test_version(self):
         with open(os.path.join(TOP, 'CITATION.cff'), encoding='utf-8') as file:
