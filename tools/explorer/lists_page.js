@@ -18,7 +18,7 @@ function start() {
   $('jumps').append(...GREY.map(label => el('button', { disabled: '', title: data.whyNot }, label)));
   $('exportBox').remove();
   Object.assign($('quiz'), { disabled: true, title: data.whyNot });
-  $('greyed').append(`${GREY.join(', ')}: ${data.whyNot}. `, el('code', {}, `tools/trim ${quoted(data.file)} > trimmed.txt`),
+  $('greyed').append(`${GREY.join(', ')}: ${data.whyNot}. `, el('code', {}, `./matchtrim < ${quoted(data.file)} > trimmed.txt`),
     ' cuts lists where nothing depends on them, so all stable matchings stay; if trimmed.txt is short enough, it can be explored.');
   startBar();
   startKeys({ l: BAR_KEYS.l, d: BAR_KEYS.d });

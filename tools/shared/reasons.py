@@ -20,7 +20,7 @@ HINTS = {
     'AfterEnd': 'only `meet`, `join`, `route` and `check` read what stands there',
     'WrongKind': '`check`, `list`, `rest`, `export` and `solve` without a side take roommates; all but `rest` take marriages and '
                  'hospitals',
-    'TooManySeats': 'tools/trim cuts lists where nothing depends on them',
+    'TooManySeats': './matchtrim cuts lists where nothing depends on them',
     'BadCursor': 'take a vector of this instance\'s own listing',
     'TooMany': '`force` and `forbid` lines allow fewer; `list` writes any number of them',
     'BadAnswer': 'an answer is its first line (`answer`, the command and its operand), its lines, each with one blank between two '

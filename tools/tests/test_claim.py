@@ -184,7 +184,7 @@ class Explain(Case):
                 (two + 'p m:\nr a:\nforce a m\nend\n', 'UnknownName 4', 'first'),
                 (two + 'end\nend\n', 'AfterEnd 3', '`check` read'),
                 ('stable 1 roommates\nend\n', 'WrongKind 1', '`solve` without a side'),
-                ('stable 1 hospitals\nend\n', 'TooManySeats 2', 'tools/trim'), (two + 'end\n', 'BadCursor 0', 'own listing'),
+                ('stable 1 hospitals\nend\n', 'TooManySeats 2', './matchtrim'), (two + 'end\n', 'BadCursor 0', 'own listing'),
                 (two + 'end\n', 'NewReason 1', 'NewReason')):
             lines = self.told(text, 'refused ' + refusal)
             self.assertTrue(lines[0].startswith('raw' if refusal.endswith(' 0') else f'raw:{refusal.split()[1]}: '), lines)

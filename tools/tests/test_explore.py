@@ -176,13 +176,13 @@ class Pages(unittest.TestCase):
             status, page, fault = explore(text)
             self.assertEqual((status, page), (1, ''))
             self.assertIn(what, fault)
-            self.assertNotIn('tools/trim', fault)
+            self.assertNotIn('matchtrim', fault)
 
     def test_too_many_seats(self):
         """Where there are too many seats the page has the lists, and says why the rest is grey."""
         status, page, fault = explore(SEATS)
         self.assertEqual(status, 0)
-        self.assertRegex(fault, r'refused TooManySeats 1027\b.*tools/trim')
+        self.assertRegex(fault, r'refused TooManySeats 1027\b.*/matchtrim')
         self.assertLess(len(page.encode()), 100_000)
         data = data_in(page)
         self.assertEqual((data['text'], data['answers']), (SEATS, {}))

@@ -119,6 +119,11 @@ class Packages(unittest.TestCase):
         self.assertTrue(said.startswith(b'matchbench %s\nprogram %s (released)\n' % (version, program.encode())), said)
         self.assertIn(b'solve [side=', self.call(script, '--help'))
         self.assertIn(b'breach or blocks', self.call(script, '--explain', 'NotStable'))
+        trim = os.path.join(prefix, 'bin', 'matchtrim')
+        trimmed = self.call(trim, text=read(TEXT))
+        self.assertEqual(self.call(script, 'solve', text=trimmed), read(TOP, 'examples', 'hospitals.solve'))
+        self.assertTrue(self.call(trim, '--version').startswith(b'matchtrim %s\n' % version))
+        self.assertIn(b'matchtrim < INSTANCE > TRIMMED', self.call(trim, '--help'))
 
     def has_module(self, prefix, python=sys.executable, **env):
         """The module finds the program below a prefix."""
@@ -165,7 +170,8 @@ class Packages(unittest.TestCase):
         words = ['lintian', '--allow-root', '--show-overrides', self.package('.deb')]
         said = subprocess.run(words, stdout=subprocess.PIPE).stdout.decode()
         self.assertEqual([it for it in said.splitlines() if it[0] in 'EO'],
-                         ['O: matchbench: unstripped-binary-or-object [usr/libexec/matchbench/matchbench]'], said)
+                         [f'O: matchbench: unstripped-binary-or-object [usr/libexec/matchbench/{it}]'
+                          for it in ('matchbench', 'matchtrim')], said)
 
     def test_wheel(self):
         with zipfile.ZipFile(self.package('.whl')) as file:

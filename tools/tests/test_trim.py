@@ -1,4 +1,5 @@
-"""`trim` against all stable matchings found by trying all matchings, and against the program's answers where it is built.
+"""`matchtrim` against all stable matchings found by trying all matchings, against deferred acceptance, and against the answers of
+`matchbench` where it is built; where `matchtrim` isn't, its stand-in is tried.
 
 TRIM_CASES in the environment says on how many random instances, as in
 
@@ -6,6 +7,7 @@ TRIM_CASES in the environment says on how many random instances, as in
 """
 import os
 import random
+import subprocess
 import unittest
 
 import brute
@@ -18,9 +20,15 @@ COMMANDS = ('solve', 'solve side=reviewers', 'rotations', 'list limit=1000', 'li
             'weight by=ranks', 'weight by=given', 'median')
 
 
-def trim(text):
-    """The status of `trim` on a text, what it writes, and what it tells."""
-    return inside.call('trim', stdin=text)
+STAND_IN = os.path.join(inside.TOOLS, 'tests', 'trimmed.py')
+BUILT = os.path.join(inside.TOOLS, '..', 'crates', 'matchtrim', 'out', 'matchtrim')
+PROGRAM = os.environ.get('MATCHTRIM') or (BUILT if os.path.isfile(BUILT) else STAND_IN)
+
+
+def trim(text, program=PROGRAM, *words):
+    """The status of `matchtrim` on a text, and what it writes."""
+    done = subprocess.run([program, *words], input=text.encode(), stdout=subprocess.PIPE)
+    return done.returncode, done.stdout.decode()
 
 
 def crowd(pupils, schools, places, listed):
@@ -39,6 +47,13 @@ def crowd(pupils, schools, places, listed):
     return '\n'.join(['stable 1 hospitals'] + lines + ['end', ''])
 
 
+def parts_of(text):
+    """The lines of an instance without layout, in the order in which they are printed."""
+    order = ('stable', 'p', 'r', 'weight', 'force', 'forbid', 'order', 'end')
+    lines = [line.split('#')[0].replace(':', ' : ').replace('[', ' [ ').replace(']', ' ] ').split() for line in text.splitlines()]
+    return sorted(filter(None, lines), key=lambda it: order.index(it[0]))
+
+
 def lines_of(keyword, has):
     """A matching as lines behind an instance."""
     return ''.join(f'{keyword} {p} {r}\n' for p, r in has.items())
@@ -47,8 +62,9 @@ def lines_of(keyword, has):
 class Trim(unittest.TestCase):
     def agrees(self, text):
         """The cut text has fronts of the lists and the same stable matchings with the same ranks, and all answers are the same."""
-        status, cut, told = trim(text)
-        self.assertEqual((status, told.split(' ')[0]), (0, 'trim:'), told)
+        status, cut = trim(text)
+        self.assertEqual(status, 0, cut)
+        self.assertEqual(parts_of(cut), parts_of(trim(text, STAND_IN)[1]))
         before, after = brute.Market(text), brute.Market(cut)
         self.assertEqual(before.capacities, after.capacities)
         for own, other in ((before.p, after.p), (before.r, after.r)):
@@ -90,41 +106,33 @@ class Trim(unittest.TestCase):
         self.assertGreater(max(count for _, count in got), 3)
 
     def test_lines(self):
-        """Comments, blanks, and what isn't cut stay as they are; `south` has no place, and `west` isn't full."""
+        """`south` has no place and loses its list, `city` is full, and `west` isn't; what is cut stays so."""
         with open(os.path.join(EXAMPLES, 'hospitals.txt'), encoding='utf-8') as file:
             text = file.read()
-        other = text.replace('r city [2]: cem ann ben dan', ' r\tcity [2] :cem ann  ben dan # two')
-        status, cut, told = trim(other.replace('\n', '\r\n'))
-        self.assertEqual((status, told),
-                         (0, 'trim: 11 entries on the lists of seats, 9 of them kept, where 1,048,576 is the most\n'))
-        wanted = other.replace('\n', '\r\n').replace(' :cem ann  ben dan # two\r', ' : cem ann ben # two')
-        self.assertEqual(cut, wanted)
+        status, cut = trim(text)
+        self.assertEqual(status, 0)
+        lists = {line[1]: line[line.index(':') + 1:] for line in parts_of(cut) if line[0] == 'r'}
+        self.assertEqual((lists['city'], lists['south']), (['cem', 'ann', 'ben'], []))
         self.assertEqual(trim(cut)[1], cut)
 
     def test_size(self):
         """An instance above the limit fits afterwards; lists that are short of nothing don't."""
-        text = crowd(2000, 41, 40, 14)
-        status, cut_crowd, told = trim(text)
+        status, cut_crowd = trim(crowd(2000, 41, 40, 14))
         self.assertEqual(status, 0)
-        self.assertEqual(told, 'trim: 1,120,000 entries on the lists of seats, 65,600 of them kept, where 1,048,576 is the most\n')
         names = [f'p{i}' for i in range(1100)]
         text = '\n'.join(['stable 1 hospitals', f'r h [1050]: {" ".join(names)}', *(f'p {name}: h' for name in names), 'end', ''])
-        status, cut, told = trim(text)
-        self.assertEqual((status, cut), (1, ''))
-        self.assertIn('standard input: 1,155,000 entries on the lists of seats, 1,102,500 of them kept', told)
-        status, fitting, told = trim(text.replace('[1050]', '[1020]'))
+        status, refused = trim(text)
+        self.assertEqual((status, refused.split(' ')[:2]), (1, ['refused', 'TooManySeats']))
+        status, fitting = trim(text.replace('[1050]', '[1020]'))
         self.assertEqual(status, 0)
         if program.PATH:
             self.assertEqual([program.ask(it, 'solve')[0] for it in (cut_crowd, fitting)], [0, 0])
 
     def test_refused(self):
-        for text, fault in (('stable 1 roommates\np a: b\np b: a\nend\n',
-                             'trim: standard input: roommates have no seats, and nothing'),
-                            ('stable 1 marriage\np a: b\nend\n', 'trim: standard input:2: b: a list, '),
-                            ('', 'trim: standard input:1: the first line with a token is no header')):
-            status, cut, told = trim(text)
-            self.assertEqual((status, cut), (1, ''))
-            self.assertTrue(told.startswith(fault), told)
+        for text, told in (('stable 1 roommates\np a: b\np b: a\nend\n', 'refused WrongKind 1\n'),
+                           ('stable 1 marriage\np a: b\nend\n', 'refused UnknownName 2\n'), ('', 'refused BadHeader 1\n')):
+            self.assertEqual(trim(text), (1, told))
+        self.assertEqual(trim('', PROGRAM, 'instance.txt'), (2, 'usage 1\n'))
 
 
 if __name__ == '__main__':

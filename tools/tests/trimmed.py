@@ -1,28 +1,14 @@
 #!/usr/bin/env python3
-"""Cuts lists at their ends, where nothing depends on them, so that an instance keeps to the limit of seats."""
-import argparse
+"""Stands in for `matchtrim` where that isn't built, and is what the program is compared with: cuts the lists of an instance by its
+two best matchings, found by deferred acceptance. Comments and layout stay.
+"""
 import heapq
+import os
 import sys
 
-sys.dont_write_bytecode = True
-from shared.command import Fault, called, read, run  # noqa: E402
-from shared.instance import MOST_SEAT_ENTRIES, Instance  # noqa: E402
-
-HELP = f"""
-Cuts the lists of an instance at their ends, so that one which is refused as TooManySeats may fit:
-
-  tools/trim instance.txt > trimmed.txt
-
-The list of a reviewer that is full in the proposers' best stable matching is cut behind the worst proposer that it has there,
-and the list of a proposer that is matched behind its reviewer in the reviewers' best one. What is cut is in no stable matching,
-and blocks none that is left. So the stable matchings stay, with all ranks in them, and so do the answers of `solve`, `rotations`,
-`list`, `pairs`, `regret`, `weight`, `survey` and `median`, byte for byte. `reduced` may lack lines of seats that nobody can have.
-Of a matching that isn't stable, `check` and `meet` may name another cause. The argument stands in docs/MATHEMATICS.md.
-
-All other lines stay as they are. How many entries the lists of all seats had, and have now, is told on standard error.
-Ends with 0 for an instance, 1 where the text can't be taken or the cut lists have more than {MOST_SEAT_ENTRIES:,} entries
-still, 2 for faulty words. Nothing of this tool is proved.
-"""
+sys.path.insert(0, os.path.join(os.path.dirname(os.path.realpath(__file__)), '..'))
+from shared.command import Fault  # noqa: E402
+from shared.instance import MOST_SEAT_ENTRIES, Instance, Refused  # noqa: E402
 
 
 def proposers_best(instance):
@@ -81,6 +67,7 @@ def ends_of(instance):
     for name, r in reviewers_best(instance).items():
         proposer = instance.proposers[name]
         ends[proposer.line] = proposer, proposer.ranks[r]
+    ends.update({it.line: (it, 0) for it in instance.reviewers.values() if it.capacity == 0})
     return {line: (agent, end) for line, (agent, end) in ends.items() if end < len(agent.entries)}
 
 
@@ -93,8 +80,8 @@ def cut_line(line, kept):
 
 def seat_entries(instance, ends):
     """How many entries the lists of all seats have where lists end early."""
-    kept = {agent.name: set(agent.entries[:end]) for line, (agent, end) in ends.items() if instance.proposers.get(agent.name) is agent}
-    short = {agent.name: end for line, (agent, end) in ends.items() if instance.reviewers.get(agent.name) is agent}
+    kept = {it.name: set(it.entries[:end]) for it, end in ends.values() if instance.proposers.get(it.name) is it}
+    short = {it.name: end for it, end in ends.values() if instance.reviewers.get(it.name) is it}
     total = 0
     for name, reviewer in instance.reviewers.items():
         entries = reviewer.entries[:short.get(name)]
@@ -103,25 +90,33 @@ def seat_entries(instance, ends):
     return total
 
 
-def main():
-    words = argparse.ArgumentParser(prog='trim', description=HELP, allow_abbrev=False,
-                                    formatter_class=argparse.RawDescriptionHelpFormatter)
-    words.add_argument('instance', metavar='INSTANCE', nargs='?', default='-', help='the instance; standard input if not given')
-    words = words.parse_args()
-    data = read(words.instance)
-    instance = Instance.read(called(words.instance), data, any_seats=True)
+def cut(data):
+    """The bytes of an instance with lists that are cut."""
+    instance = Instance.read('standard input', data, any_seats=True)
     if instance.kind == 'roommates':
-        raise Fault(f'{called(words.instance)}: roommates have no seats, and nothing to cut')
+        raise Fault('refused WrongKind 1')
     ends = ends_of(instance)
-    before, after = seat_entries(instance, {}), seat_entries(instance, ends)
-    counts = f'{before:,} entries on the lists of seats, {after:,} of them kept, where {MOST_SEAT_ENTRIES:,} is the most'
-    if after > MOST_SEAT_ENTRIES:
-        raise Fault(f'{called(words.instance)}: {counts}; shorter lists or fewer places are wanted')
+    if seat_entries(instance, ends) > MOST_SEAT_ENTRIES:
+        raise Fault('refused TooManySeats 0')
     lines = data.decode('latin-1').split('\n')
     for number, (agent, end) in ends.items():
         lines[number - 1] = cut_line(lines[number - 1].rstrip('\r'), agent.entries[:end])
-    print(f'trim: {counts}', file=sys.stderr)
-    sys.stdout.buffer.write('\n'.join(lines).encode('latin-1'))
+    return '\n'.join(lines).encode('latin-1')
 
 
-run('trim', main)
+def main():
+    if sys.argv[1:]:
+        sys.stdout.write('usage 1\n')
+        return 2
+    try:
+        written, status = cut(sys.stdin.buffer.read()), 0
+    except Refused as fault:
+        written, status = f'refused {fault.reason} {fault.line}\n'.encode(), 1
+    except Fault as fault:
+        written, status = f'{fault}\n'.encode(), 1
+    sys.stdout.buffer.write(written)
+    return status
+
+
+if __name__ == '__main__':
+    sys.exit(main())
