@@ -1,5 +1,5 @@
 """`matchtrim` against all stable matchings found by trying all matchings, against deferred acceptance, and against the answers of
-`matchbench` where it is built; where `matchtrim` isn't, its stand-in is tried.
+`matchbench`; where no `matchtrim` of these sources is built or released, its stand-in is tried.
 
 TRIM_CASES in the environment says on how many random instances, as in
 
@@ -21,8 +21,8 @@ COMMANDS = ('solve', 'solve side=reviewers', 'rotations', 'list limit=1000', 'li
 
 
 STAND_IN = os.path.join(inside.TOOLS, 'tests', 'trimmed.py')
-BUILT = os.path.join(inside.TOOLS, '..', 'crates', 'matchtrim', 'out', 'matchtrim')
-PROGRAM = os.environ.get('MATCHTRIM') or (BUILT if os.path.isfile(BUILT) else STAND_IN)
+FOUND = [os.path.join(inside.TOOLS, '..', '.ci', 'program'), 'matchtrim']
+PROGRAM = os.environ.get('MATCHTRIM') or subprocess.run(FOUND, stdout=subprocess.PIPE, check=True).stdout.decode().strip() or STAND_IN
 
 
 def trim(text, program=PROGRAM, *words):
