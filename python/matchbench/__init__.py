@@ -87,9 +87,7 @@ class Refused(MatchbenchError):
 
 
 class NotStable(Refused):
-    """One of two given matchings isn't stable: `which` is 'left' or 'right', and `cause` 'breach' where `pair` can't be held, and
-    'blocks' where the two would both rather have one another.
-    """
+    """The matching `which`, 'left' or 'right', isn't stable: `pair` can't be held (`cause` is 'breach') or 'blocks'; see `why`."""
 
     def __init__(self, line: int, line_text: str, text: str, which: str, cause: str, pair: Pair, why: str) -> None:
         super().__init__('NotStable', line, line_text, text)
@@ -99,9 +97,7 @@ class NotStable(Refused):
 
 
 class NoMatching(MatchbenchError):
-    """There is no such matching, as the answer `text` says: the conditions allow none, or roommates have none. Then `parties` are
-    those of a stable partition, each in the order of successors, and an odd one of three or more shows it.
-    """
+    """No stable matching is allowed; or roommates have none, as an odd one of the `parties` of a stable partition shows."""
 
     def __init__(self, text: str, parties: Tuple[Tuple[Name, ...], ...] = ()) -> None:
         super().__init__(text, parties)
@@ -198,9 +194,7 @@ class Couples(Matching):
 
 @dataclass(frozen=True)
 class Reduced(Result):
-    """The reduced lists, of each proposer and of each seat. `first` and `last` have the seat of each matched proposer in the
-    proposers' best stable matching and in the reviewers' best.
-    """
+    """The reduced lists; `first` and `last` are each matched proposer's seats in the proposers' best and in the reviewers' best."""
     first: Dict[Name, Seat]
     last: Dict[Name, Seat]
     proposers: Dict[Name, Tuple[Seat, ...]]
@@ -286,9 +280,7 @@ class Median(Result):
 
 @dataclass(frozen=True)
 class Route(Result):
-    """A shortest way from one stable matching to another: the rotations that are taken back, and those that are then eliminated, by
-    their numbers and in this order. `first` and `rotations` are as in a `RotationOrder`.
-    """
+    """A shortest way from one stable matching to another: the numbers of the rotations to take `back`, then of those `forth`."""
     back: Tuple[int, ...]
     forth: Tuple[int, ...]
     first: Dict[Name, Seat]
@@ -594,9 +586,7 @@ class Instance(InstanceViews):
         return Lightest(answer.text, *answer.level(''), self._matching(answer), *self._chain(answer), taken, second)
 
     def meet(self, left: GivenMatching, right: GivenMatching) -> Matching:
-        """Of two stable matchings the one in which each proposer has the better of its two partners. It is stable too. Raises
-        NotStable where one of the two isn't.
-        """
+        """The stable matching in which each proposer has the better of its partners in two; NotStable is raised where one isn't."""
         return self._matching(self._given('meet', left, right))
 
     def join(self, left: GivenMatching, right: GivenMatching) -> Matching:
@@ -622,9 +612,7 @@ class Instance(InstanceViews):
         return Rest(answer.text, tuple(self._proposers.originals[it] for it, in answer.of('out')), self._matching(answer))
 
     def survey(self, limit: int = MOST_LISTED) -> Survey:
-        """Figures over the allowed stable matchings, or over the first of them in the order of `list`, a million at most. Takes as
-        long as listing them, and starts the program twice.
-        """
+        """Figures over the allowed stable matchings, or over the first so many of `list`. Takes as long as listing them."""
         answer = self._answer('survey', f'limit={_number("limit", limit, 1, MOST_LISTED)}')
         listed, (_, sums, regrets, ranks) = answer.number('listed'), [list(map(int, it[1:])) for it in answer.of('tally')]
         # The same agents are alone in all stable matchings. The program counts them by the rank behind their lists.
@@ -651,9 +639,7 @@ class Instance(InstanceViews):
         return Verdict(written, False, sentence, reason, line, above[-1], blocking)
 
     def check_matching(self, matching: GivenMatching, claim: str = 'stable') -> Verdict:
-        """Whether a matching is what it is claimed to be: 'stable', or the 'proposers' or the 'reviewers' best one. The reason is
-        'NotAMatching', 'Blocked' or 'NotBest'. The verdict, and with two sides the pair that blocks, are the program's.
-        """
+        """Whether a matching is 'stable', or a side's best one; where it isn't: 'NotAMatching', 'Blocked' or 'NotBest'."""
         rooms = self.kind == 'roommates'
         _one_of('claim', claim, ('stable',) if rooms else ('stable', 'proposers', 'reviewers'))
         pairs = self._pairs_of(matching)
