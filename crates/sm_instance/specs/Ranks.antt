@@ -1,6 +1,6 @@
 -- Rank vectors and their order, and what a matching is worth: its regret and its weight. Ranks are written places counted
 -- from 1.
-use Rattle.std.specs.Prelude.{ℕ, zero, ◌+◌, max, List, length, map, fold, Option, Some, None, ℤ, pos, ◌+ℤ◌}
+use Rattle.std.specs.Prelude.{ℕ, ◌+◌, max, List, length, map, fold, Option, Some, None, ℤ, pos, ◌+ℤ◌}
 use Rattle.std.specs.List.{range_with_len}
 -- the order of rank vectors, in which the proposers are compared in a given order
 pub use Rattle.sm_lists.specs.Orders.{IsBefore}

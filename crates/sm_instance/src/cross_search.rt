@@ -12,8 +12,8 @@ use sm_lists::first_place;
 use std::alloc::{AllocError, Global};
 use std::marker::Model;
 
-/// Looks for cross places of an instance one by one: along a list, until that took twice as many steps as there are entries, and
-/// from then on in those of the whole instance. Those are made then, unless the instance keeps them.
+/// Looks for cross places of an instance one by one: along a list, until that took four times as many steps as there are entries,
+/// and from then on in those of the whole instance. Those are made then, unless the instance keeps them.
 #[derive(Drop)]
 pub struct CrossSearch<'a> {
     instance: &'a Instance,
@@ -45,7 +45,7 @@ impl<'a> CrossSearch<'a> {
         CrossSearch {
             instance,
             made,
-            steps_left: 2 * entries,
+            steps_left: 4 * entries,
         }
     }
 
