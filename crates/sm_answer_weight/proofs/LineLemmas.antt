@@ -37,8 +37,8 @@ use Rattle.sm_answer_rotations.proofs.RotationLemmas.{both_sound, flat_from}
 use Rattle.sm_answer_weight.specs.WeightAnswer.{in_two, shown_node, member_numbers}
 use Rattle.sm_answer_weight.specs.Found.{IsLightestOfSeats, IsFlowLine}
 use Rattle.sm_answer_weight.specs.Given.{gain_line, second_gain_line, row_lines, rows_found, edge_line, figure_line, figure_count, weight_given}
-use Rattle.sm_answer_weight.specs.declared.figures.FlowLevel.{FlowLevel}
-use Rattle.sm_answer_weight.specs.declared.figures.FlowLevel.TheVariants.{First, Second}
+use Rattle.sm_theory.specs.declared.flow_lines.FlowLevel.{FlowLevel}
+use Rattle.sm_theory.specs.declared.flow_lines.FlowLevel.TheVariants.{First, Second}
 use Rattle.sm_answer_weight.specs.declared.lightest_parts.Lightest.{Lightest}
 use Rattle.sm_answer_weight.proofs.MemberLemmas.{are_rotations}
 use Rattle.sm_answer_weight.proofs.SizeLemmas.{gain_size, weight_size}

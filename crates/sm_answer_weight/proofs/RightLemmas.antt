@@ -42,7 +42,7 @@ use Rattle.sm_answer_weight.specs.WeightAnswer.{FillsCut, AreCertificates, gain_
 use Rattle.sm_instance.specs.Lightest.{IsLightestByBoth}
 use Rattle.sm_answer_weight.specs.Found.{IsLightestOfSeats}
 use Rattle.sm_answer_weight.specs.Given.{row_lines, rows_found, edge_line, second_gain_line, weight_given}
-use Rattle.sm_answer_weight.specs.declared.figures.FlowLevel.TheVariants.{First, Second}
+use Rattle.sm_theory.specs.declared.flow_lines.FlowLevel.TheVariants.{First, Second}
 use Rattle.sm_answer_weight.specs.declared.lightest_parts.Lightest.{Lightest}
 use Rattle.sm_answer_weight.proofs.LineLemmas.{figures_are, given_sound}
 

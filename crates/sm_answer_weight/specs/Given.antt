@@ -15,8 +15,8 @@ use Rattle.sm_answer_weight.specs.WeightAnswer.{in_two, flow_line, second_flow_l
 use Rattle.sm_answer_weight.specs.declared.lightest_parts.Lightest.{Lightest}
 use Rattle.sm_answer_weight.specs.declared.gained_lines.RotationPart.{RotationPart}
 use Rattle.sm_answer_weight.specs.declared.gained_lines.RotationPart.TheVariants.{Pairs, Needs, Gain, SecondGain}
-use Rattle.sm_answer_weight.specs.declared.figures.FlowLevel.{FlowLevel}
-use Rattle.sm_answer_weight.specs.declared.figures.FlowLevel.TheVariants.{First, Second}
+use Rattle.sm_theory.specs.declared.flow_lines.FlowLevel.{FlowLevel}
+use Rattle.sm_theory.specs.declared.flow_lines.FlowLevel.TheVariants.{First, Second}
 
 -- the gain of a rotation
 abbrev pub gain_line : List ℤ → ℕ → LineData

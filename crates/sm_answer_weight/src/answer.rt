@@ -9,7 +9,7 @@ ghost use Rattle.sm_seats.specs.Correspondence.{IsSeating};
 ghost use Rattle.sm_answer_weight.specs.WeightAnswer.{IsWeightAnswer};
 ghost use Rattle.sm_answer_weight.specs.Found.{IsLightestOfSeats};
 
-use crate::figures::{Figures, FlowLevel, FlowLines};
+use crate::figures::{Figures, FlowLines};
 use crate::gained_lines::{GainedLines, RotationPart};
 use crate::lightest_parts::Lightest;
 use sm_answer::{Each, Lines, One, Printed, Then};
@@ -17,6 +17,7 @@ use sm_answer_rotations::{PairLines, Rotations, SeatLines};
 use sm_instance::{Input, Instance, Side};
 use sm_report::{Head, Line};
 use sm_seats::Seats;
+use sm_theory::FlowLevel;
 
 /// The lines of the answer of `weight`.
 pub type LightestLines<'a> = Printed<

@@ -8,17 +8,8 @@ ghost use Rattle.sm_answer_weight.specs.Given.{edge_line, flow_in};
 use crate::lightest_parts::Lightest;
 use sm_answer::{Answer, Numbered};
 use sm_report::Line;
-use sm_theory::FlowLine;
+use sm_theory::{FlowLevel, FlowLine};
 use std::alloc::{AllocError, Global};
-
-/// Which of the two flows of an answer.
-#[derive(Clone, Copy)]
-pub enum FlowLevel {
-    /// The first flow, by weights.
-    First,
-    /// The second flow, by second weights.
-    Second,
-}
 
 /// The lines of a flow from the one with the number `next` on, counted from 0.
 #[derive(Drop)]

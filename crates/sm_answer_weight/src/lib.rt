@@ -12,7 +12,7 @@ mod lightest_parts;
 pub mod witnesses;
 
 pub use answer::{LightestLines, lightest_lines};
-pub use figures::{Figures, FlowLevel, FlowLines};
+pub use figures::{Figures, FlowLines};
 pub use finding::find_lightest;
 pub use gained_lines::{GainedLines, RotationPart};
 pub use lightest_parts::Lightest;

@@ -201,10 +201,10 @@ reach : IsResidualReach net flow (true ∷ true ∷ [])
 reach = record { one_each = refl; exact = exact }
   where
     to_second : IsResidualStep net flow 0 2
-    to_second = record { in_range = omega arith; step = inr (inl (omega arith)) }
+    to_second = refl
 
     to_first : IsResidualStep net flow 2 1
-    to_first = record { in_range = omega arith; step = inl refl }
+    to_first = refl
 
     exact : (k : ℕ) → k < 2 → IsMember (true ∷ true ∷ []) k ↔ IsReachable (IsResidualStep net flow) 0 (suc k)
     exact zero h = ((λ _. record { path = 2 ∷ 1 ∷ []; is = (to_second, (to_first, refl)) }), (λ _. refl))

@@ -15,6 +15,7 @@ use Rattle.sm_theory.specs.Flows.{IsResidualStep, IsResidualReach}
 use Rattle.sm_theory.specs.declared.flow_lines.FlowLine.{FlowLine}
 use Rattle.sm_theory.specs.FlowLines.{line_at, amount_on, AreOnNodes}
 use Rattle.sm_theory.proofs.Net.Tests.{and_parts, or_parts, not_same, some_passes}
+use Rattle.sm_theory.proofs.Flow.Steps.{step_kind, step_end, step_of_kind}
 use Rattle.sm_check_net.specs.Pairs.{has_pair}
 use Rattle.sm_lists.specs.Pairs.{pair_at}
 use Rattle.sm_check_net.specs.CheckedNets.{NetParts, net_of_parts}
@@ -56,7 +57,7 @@ module _ (parts : NetParts) (lines : List FlowLine) where
       let whole = and_parts (not (suc j == 0)) _ m in
       let range = and_parts (nat_lt (suc j) (suc (sink_of net))) _ whole.1 in
       let ends = and_parts (not (i == suc j)) _ range.1 in
-      record { in_range = ltb-true _ _ range.0; step = inl (and_from _ _ ends.0 (and_from _ _ ends.1 (elim or [ inl a ↦ or_left _ _ a | inr b ↦ or_right (leads_to_need parts.needs i (suc j)) _ b ]))) }
+      step_of_kind net (amount_on lines) i (suc j) (ltb-true _ _ range.0) (inl (and_from _ _ ends.0 (and_from _ _ ends.1 (elim or [ inl a ↦ or_left _ _ a | inr b ↦ or_right (leads_to_need parts.needs i (suc j)) _ b ]))))
 
   from_need : (i j : ℕ) → has_pair (joined (need_steps net parts.needs) (length parts.needs)) i j ≡ true → Step i j
   from_need i j h =
@@ -83,7 +84,7 @@ module _ (parts : NetParts) (lines : List FlowLine) where
       let some : 0 < l.amount = ltb-true _ _ p.0 in
       let part : (if l.from == j && l.to == i then l.amount else 0) ≡ l.amount = rw (eq-eqb l.from j p.2, eq-eqb l.to i p.1) refl in
       let sum = get_or-le-sum_by (λ (x : FlowLine). if x.from == j && x.to == i then x.amount else 0) lines v.at (record { from = 0; to = 0; amount = 0 }) v.below in
-      record { in_range = omega (arith, (on v.at v.below).0, p.2); step = inr (inr (omega (arith, some, part, sum))) }
+      step_of_kind net (amount_on lines) i j (omega (arith, (on v.at v.below).0, p.2)) (inr (inr (omega (arith, some, part, sum))))
 
   from_supply : (i j : ℕ) → has_pair (joined (supply_steps net lines) size) i j ≡ true → Step i j
   from_supply i j h =
@@ -91,7 +92,7 @@ module _ (parts : NetParts) (lines : List FlowLine) where
       let p = in_pair_if (nat_lt (amount_on lines 0 (w.at + 1)) (net.supply w.at)) 0 (w.at + 1) i j w.has in
       let room : room_of net 0 (w.at + 1) ≡ net.supply w.at = sym (λ t. room_of net 0 (next w.at t)) ∙ rw (lt-ltb w.at size w.below) refl in
       let less : amount_on lines 0 (w.at + 1) < net.supply w.at = ltb-true _ _ p.0 in
-      subst (λ a. Step a j) p.1 (subst (Step 0) p.2 (record { in_range = omega (arith, w.below); step = inr (inl (omega (arith, room, less))) }))
+      subst (λ a. Step a j) p.1 (subst (Step 0) p.2 (step_of_kind net (amount_on lines) 0 (w.at + 1) (omega (arith, w.below)) (inr (inl (omega (arith, room, less))))))
 
   from_drain : (i j : ℕ) → has_pair (joined (drain_steps net lines) size) i j ≡ true → Step i j
   from_drain i j h =
@@ -99,7 +100,7 @@ module _ (parts : NetParts) (lines : List FlowLine) where
       let p = in_pair_if (nat_lt (amount_on lines (w.at + 1) (sink_of net)) (net.drain w.at)) (w.at + 1) (sink_of net) i j w.has in
       let room : room_of net (w.at + 1) (sink_of net) ≡ net.drain w.at = sym (λ t. room_of net (next w.at t) (sink_of net)) ∙ rw (eq-eqb size size refl) refl in
       let less : amount_on lines (w.at + 1) (sink_of net) < net.drain w.at = ltb-true _ _ p.0 in
-      subst (λ a. Step a j) p.1 (subst (Step (w.at + 1)) p.2 (record { in_range = omega arith; step = inr (inl (omega (arith, room, less))) }))
+      subst (λ a. Step a j) p.1 (subst (Step (w.at + 1)) p.2 (step_of_kind net (amount_on lines) (w.at + 1) (sink_of net) (omega arith) (inr (inl (omega (arith, room, less))))))
 
   abbrev needed : List (ℕ × ℕ)
   needed = joined (need_steps net parts.needs) (length parts.needs)
@@ -236,8 +237,8 @@ module _ (parts : NetParts) (lines : List FlowLine) where
 
   -- and each residual step is one of the pairs
   pub step_listed : (i j : ℕ) → Step i j → Listed i j
-  step_listed i j s = elim s.step [
-    | inl u ↦ unbounded_listed i j s.in_range u
+  step_listed i j s = elim (step_kind net (amount_on lines) i j s) [
+    | inl u ↦ unbounded_listed i j (step_end net (amount_on lines) i j s) u
     | inr more ↦ elim more [ inl room ↦ room_listed i j room | inr back ↦ back_listed i j back ]
   ]
 
@@ -248,7 +249,7 @@ module _ (parts : NetParts) (lines : List FlowLine) where
         let i : ℕ = (pair_at steps k).0 in
         let j : ℕ = (pair_at steps k).1 in
         let s = step_of on i j (sym (same i j) ∙ step_at steps k i less refl) in
-        omega (arith, s.in_range)
+        omega (arith, step_end net (amount_on lines) i j s)
 
     there : (path : List ℕ) (i j : ℕ) → IsPath (IsStepOf steps) i path j → IsPath Step i path j
     there [] i j w = w

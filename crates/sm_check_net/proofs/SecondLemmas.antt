@@ -1,27 +1,27 @@
 -- The net of no needs and of the inner residual steps as bonds is the second net of a flow.
-use Rattle.std.proofs.Common.{◌≡◌, ◌≢◌, ℕ, zero, suc, ◌+◌, ◌<◌, ◌≤◌, ◌⊎◌, inl, inr, arith, refl, sym, ap, ◌∙◌, subst, Bool, true, false, not, List, [], ◌∷◌, ◌++◌, length, replicate, get_or, eqb-true, eq-eqb, ne_eqb, le-ltb, ℤ, pos}
+use Rattle.std.proofs.Common.{◌≡◌, ◌≢◌, ℕ, zero, suc, ◌+◌, ◌<◌, ◌≤◌, inl, inr, arith, refl, sym, ap, ◌∙◌, subst, Bool, true, false, not, List, [], length, replicate, eqb-true, eq-eqb, ne_eqb, le-ltb, ℤ, pos}
 use Rattle.std.specs.Prelude.{◌==◌, ◌&&◌, ◌||◌, if◌then◌else◌}
-use Rattle.std.specs.List.{list_any, flat_map}
+use Rattle.std.specs.List.{list_any}
 use Rattle.std.proofs.lemmas.Bool.{false≢true, and_from, false_from_ne_true, not_from_false, or_right}
 use Rattle.std.proofs.lemmas.List.{get_or_past}
 use Rattle.sm_lists.specs.Rows.{row}
-use Rattle.sm_lists.proofs.Counting.{eq_or_ne, lt_or_le}
+use Rattle.sm_lists.proofs.Counting.{eq_or_ne}
 use Rattle.sm_theory.specs.Conditions.{leads_to_need, rise_of, fall_of}
-use Rattle.sm_theory.specs.Net.{Net, sink_of, room_of, is_unbounded, IsUnbounded, HasEdge}
-use Rattle.sm_theory.specs.Flows.{IsResidualStep}
+use Rattle.sm_theory.specs.Net.{Net, room_of, IsUnbounded, HasEdge}
+use Rattle.sm_theory.specs.Flows.{is_residual_step, IsResidualStep}
 use Rattle.sm_theory.specs.FlowLines.{line_at, amount_on, AreOnNodes}
-use Rattle.sm_theory.specs.SecondNets.{is_residual_step, second_net}
+use Rattle.sm_theory.specs.SecondNets.{second_net}
 use Rattle.sm_theory.specs.declared.flow_lines.FlowLine.{FlowLine}
-use Rattle.sm_theory.proofs.Flow.Second.{step_of as step_of_test, test_of}
+use Rattle.sm_theory.proofs.Flow.Steps.{step_kind}
 use Rattle.sm_theory.proofs.Net.Tests.{and_parts, or_parts, not_parts, not_same, some_passes}
 use Rattle.sm_check_net.specs.Pairs.{has_pair}
 use Rattle.sm_lists.specs.Pairs.{pair_at}
 use Rattle.sm_check_net.specs.CheckedNets.{NetParts, net_of_parts, gain_at, IsOnEdge}
-use Rattle.sm_check_net.specs.Residual.{pair_if, residual_steps}
+use Rattle.sm_check_net.specs.Residual.{residual_steps}
 use Rattle.sm_check_net.specs.Second.{AreOnEdges, inner_step, inner_steps}
 use Rattle.sm_check_net.proofs.PairListLemmas.{has_pair-pair_if, in_pair_if, in_flat, has_pair-flat_map}
 use Rattle.sm_check_net.proofs.ReachLemmas.{step_at}
-use Rattle.sm_check_net.proofs.ResidualLemmas.{HasPart, has_part, step_of, step_listed}
+use Rattle.sm_check_net.proofs.ResidualLemmas.{has_part, step_of, step_listed}
 use Rattle.sm_lists.proofs.ResultLemmas.{same_bool}
 
 -- rotations without needs need none
@@ -85,7 +85,7 @@ module _ (parts : NetParts) (lines : List FlowLine) (on : AreOnNodes (length par
   has_no_loop i (inr some) = omega (arith, no_loop_room i, some)
 
   no_loop : (i : ℕ) → Step i i → ⊥
-  no_loop i s = elim s.step [
+  no_loop i s = elim (step_kind net (amount_on lines) i i s) [
     | inl u ↦ no_loop_edge i u
     | inr more ↦ elim more [
       | inl less ↦ omega (arith, no_loop_room i, less)
@@ -108,7 +108,7 @@ module _ (parts : NetParts) (lines : List FlowLine) (on : AreOnNodes (length par
   to_source (suc i) (inr some) = omega arith
 
   no_through : Step 0 sink → ⊥
-  no_through s = elim s.step [
+  no_through s = elim (step_kind net (amount_on lines) 0 sink s) [
     | inl u ↦ through_edge u
     | inr more ↦ elim more [
       | inl less ↦ omega (arith, through_room, less)
@@ -158,20 +158,19 @@ module _ (parts : NetParts) (lines : List FlowLine) (on : AreOnNodes (length par
           | inl n ↦ absurd (false≢true (sym (ap (λ rows. leads_to_need rows i j) none ∙ no_need (length parts.gains) i j) ∙ n))
           | inr b ↦
               let w = inner_is i j (sym (same i j) ∙ b) in
-              and_from (not (i == sink)) _ (not_same i sink w.0) (and_from (not (j == 0)) _ (not_same j 0 w.1) (test_of net (amount_on lines) i j w.2))
+              and_from (not (i == sink)) _ (not_same i sink w.0) (and_from (not (j == 0)) _ (not_same j 0 w.1) w.2)
         ]
 
     back : (i j : ℕ) → other i j ≡ true → test i j ≡ true
     back i j e =
         let out = and_parts (not (i == sink)) _ e in
         let up = and_parts (not (j == 0)) _ out.1 in
-        let s = step_of_test net (amount_on lines) i j up.1 in
         let a : i ≢ sink = (λ x. false≢true (sym (not_parts (i == sink) out.0) ∙ eq-eqb i sink x)) in
         let b : j ≢ 0 = (λ x. false≢true (sym (not_parts (j == 0) up.0) ∙ eq-eqb j 0 x)) in
-        and_from (not (i == j)) _ (not_same i j (λ x. no_loop i (subst (Step i) (sym x) s)))
+        and_from (not (i == j)) _ (not_same i j (λ x. no_loop i (subst (Step i) (sym x) up.1)))
         (and_from (not (i == 0 && j == sink)) _ (not_from_false _ (false_from_ne_true (i == 0 && j == sink) (λ t.
-        let ends = and_parts (i == 0) (j == sink) t in no_through (subst (λ x. Step x sink) (eqb-true i 0 ends.0) (subst (Step i) (eqb-true j sink ends.1) s)))))
-        (or_right (leads_to_need needs i j) (has_pair bonds i j) (same i j ∙ is_inner i j a b s)))
+        let ends = and_parts (i == 0) (j == sink) t in no_through (subst (λ x. Step x sink) (eqb-true i 0 ends.0) (subst (Step i) (eqb-true j sink ends.1) up.1)))))
+        (or_right (leads_to_need needs i j) (has_pair bonds i j) (same i j ∙ is_inner i j a b up.1)))
 
     tests_are : (i j : ℕ) → test i j ≡ other i j
     tests_are i j = same_bool (test i j) (other i j) (there i j) (back i j)

@@ -6,7 +6,7 @@ use Rattle.std.proofs.lemmas.List.{map_more}
 use Rattle.std.proofs.lemmas.List.Elements.{filter_map-append}
 use Rattle.sm_report.specs.declared.lines.Line.{Line}
 use Rattle.sm_report.specs.Lines.{LineData, line_of}
-use Rattle.sm_check_clauses.specs.Said.{needs_in, flow_in}
+use Rattle.sm_check_clauses.specs.Said.{needs_in}
 
 module _ {X : Type 0} (said : LineData → Option X) (lines : List Line) (i : ℕ) (x : Line) (inside : i < length lines) (is : x ≡ get_or lines i x) where
   said_next : filter_map said (map line_of (take (i + 1) lines)) ≡ filter_map said (map line_of (take i lines)) ++ cons_option (said (line_of x)) []
@@ -26,8 +26,3 @@ module _ {X : Type 0} (said : LineData → Option X) (lines : List Line) (i : �
 pub needs_in-none : (x : Line) → ((i : ℕ) (needed : Vec ℕ Global) → x ≡ Line.Needs i needed → ⊥) → needs_in (line_of x) ≡ None
 needs_in-none (Line.Needs i needed) a = absurd (a i needed refl)
 needs_in-none _ a = refl
-
--- a line that is none of a flow says none
-pub flow_in-none : (x : Line) → ((from to amount : ℕ) → x ≡ Line.Flow from to amount → ⊥) → flow_in (line_of x) ≡ None
-flow_in-none (Line.Flow from to amount) a = absurd (a from to amount refl)
-flow_in-none _ a = refl

@@ -13,9 +13,10 @@ use Rattle.sm_theory.specs.Weights.{gain_of}
 use Rattle.sm_theory.specs.Net.{Net, sink_of, room_of, HasEdge, IsUnbounded}
 use Rattle.sm_theory.specs.FlowLines.{amount_on, line_at, AreOnNodes}
 use Rattle.sm_theory.specs.Conditions.{net_of}
-use Rattle.sm_theory.specs.SecondNets.{is_residual_step, second_net}
+use Rattle.sm_theory.specs.Flows.{is_residual_step}
+use Rattle.sm_theory.specs.SecondNets.{second_net}
 use Rattle.sm_theory.specs.declared.flow_lines.FlowLine.{FlowLine}
-use Rattle.sm_theory.proofs.Flow.Second.{step_of}
+use Rattle.sm_theory.proofs.Flow.Steps.{step_kind}
 use Rattle.sm_theory.proofs.Net.Tests.{and_parts}
 use Rattle.sm_seats.specs.SeatMarket.{seat_market}
 use Rattle.sm_seats.specs.Seating.{seating_of, levels_of}
@@ -57,8 +58,8 @@ second_edges_on_nodes by w first rotations needs lines long below on i j edge = 
     by_step : (i j : ℕ) → IsUnbounded (second_net_shown by w first rotations needs (amount_on lines)) i j → (i < length rotations + 2) × (j < length rotations + 2)
     by_step i zero u = absurd (false≢true u)
     by_step i (suc j) u =
-        let s = step_of net (amount_on lines) i (suc j) (and_parts (not (suc j == 0)) (is_residual_step net (amount_on lines) i (suc j)) (and_parts (not (i == sink_of net)) (not (suc j == 0) && is_residual_step net (amount_on lines) i (suc j)) u).1).1 in
-        elim s.step [
+        let s = (and_parts (not (suc j == 0)) (is_residual_step net (amount_on lines) i (suc j)) (and_parts (not (i == sink_of net)) (not (suc j == 0) && is_residual_step net (amount_on lines) i (suc j)) u).1).1 in
+        elim (step_kind net (amount_on lines) i (suc j) s) [
           | inl unbounded ↦ shown_edges_on_nodes by w first rotations needs long below i (suc j) (inl unbounded)
           | inr more ↦ elim more [
             | inl less ↦ shown_edges_on_nodes by w first rotations needs long below i (suc j) (inr (omega (arith, less)))

@@ -5,8 +5,8 @@ use Rattle.sm_theory.specs.FlowLines.{IsNewEdge, IsWithinRoom}
 use Rattle.sm_theory.specs.declared.flow_lines.FlowLine.{FlowLine}
 use Rattle.sm_report.specs.Lines.{LineData}
 use Rattle.sm_check_clauses.specs.Said.{flow_in, second_flow_in}
-use Rattle.sm_check_weight.specs.declared.flow_lines.FlowLevel.{FlowLevel}
-use Rattle.sm_check_weight.specs.declared.flow_lines.FlowLevel.TheVariants.{First, Second}
+use Rattle.sm_theory.specs.declared.flow_lines.FlowLevel.{FlowLevel}
+use Rattle.sm_theory.specs.declared.flow_lines.FlowLevel.TheVariants.{First, Second}
 use Rattle.sm_check_clauses.specs.declared.verdicts.Reason.{Reason}
 use Rattle.sm_check_clauses.specs.declared.verdicts.Reason.TheVariants as reason
 

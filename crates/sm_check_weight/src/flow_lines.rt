@@ -13,15 +13,8 @@ ghost use Rattle.sm_check_weight.specs.FlowClauses.{NextHolds, flow_line, amount
 use sm_check_clauses::Reason;
 use sm_check_net::{CheckedNet, repeated_lines};
 use sm_report::Line;
-use sm_theory::FlowLine;
+use sm_theory::{FlowLevel, FlowLine};
 use std::alloc::{AllocError, Global};
-
-/// Of which of the two flows of an answer.
-#[derive(Clone, Copy)]
-pub(crate) enum FlowLevel {
-    First,
-    Second,
-}
 
 /// All lines of a flow of an answer on the nodes of its net, whether each has the ends of an earlier one, and how many of them
 /// were judged.

@@ -20,7 +20,7 @@ ghost use Rattle.sm_check_weight.specs.Kept.{AreTables, ClaimHolds, HasClaim, Ha
 ghost use Rattle.sm_check_weight.specs.Order.{AreNeedsInOrder};
 
 use crate::claims::Claim;
-use crate::flow_lines::{Flow, FlowLevel};
+use crate::flow_lines::Flow;
 use crate::gains::{all_needs, gains_of, last_gain};
 use crate::said::SaidFlow;
 use crate::taken::Taken;
@@ -30,6 +30,7 @@ use sm_check_net::{CheckedNet, bonds, second_net};
 use sm_instance::{Instance, Measure};
 use sm_report::Line;
 use sm_seats::{Seats, has_two_levels, leveled, seconds_of_places, weights_of_places};
+use sm_theory::FlowLevel;
 use std::alloc::{AllocError, Global};
 
 /// An instance and its seats, and the measure by which its matchings are weighed.

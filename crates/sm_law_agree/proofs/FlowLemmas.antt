@@ -19,6 +19,7 @@ use Rattle.sm_theory.specs.Flows.{IsFlow}
 use Rattle.sm_theory.specs.FlowLines.{line_at, amount_on, AreOnNodes, HaveSameEnds, IsNewEdge, IsWithinRoom, IsLineBefore, AreFlowLines}
 use Rattle.sm_theory.specs.declared.flow_lines.FlowLine.{FlowLine}
 use Rattle.sm_theory.specs.SecondNets.{second_net}
+use Rattle.sm_theory.proofs.Flow.Steps.{step_kind}
 use Rattle.sm_theory.proofs.Flow.Second.{step_of_edge}
 use Rattle.sm_theory.proofs.Net.Tests.{and_parts}
 use Rattle.sm_seats.specs.ShownNet.{net_shown}
@@ -140,7 +141,7 @@ none_through by w first rotations needs (inr room) = no_room_through (net_shown 
 
 -- and so no edge of the second net of a flow in such a net
 pub none_through_second : (net : Net) (flow : ℕ → ℕ → ℕ) (gains : ℕ → ℤ) → IsFlow net flow → (HasEdge net 0 (sink_of net) → ⊥) → HasEdge (second_net net flow gains) 0 (sink_of net) → ⊥
-none_through_second net flow gains is_flow none (inl u) = elim (step_of_edge net flow gains 0 (sink_of net) u).step [
+none_through_second net flow gains is_flow none (inl u) = elim (step_kind net flow 0 (sink_of net) (step_of_edge net flow gains 0 (sink_of net) u)) [
   | inl unbounded ↦ none (inl unbounded)
   | inr bounded ↦ elim bounded [
     | inl less ↦ none (inr (omega (arith, less)))

@@ -15,6 +15,7 @@ use Rattle.sm_theory.specs.Flows.{IsResidualStep, IsResidualReach}
 use Rattle.sm_theory.specs.FlowLines.{amount_on}
 use Rattle.sm_theory.specs.Conditions.{leads_to_need}
 use Rattle.sm_theory.specs.declared.flow_lines.FlowLine.{FlowLine}
+use Rattle.sm_theory.proofs.Flow.Steps.{step_of_kind}
 use Rattle.sm_theory.proofs.Net.Paths.{reach_on}
 use Rattle.sm_theory.proofs.Net.Tests.{not_same}
 use Rattle.sm_seats.specs.SeatMarket.{seat_market}
@@ -25,7 +26,7 @@ use Rattle.sm_answer_weight.specs.WeightAnswer.{AreCertificates}
 -- with a rotation a reach has each one to which an unbounded edge leads
 reach_more : (net : Net) (flow : ℕ → ℕ → ℕ) (set : List Bool) → IsResidualReach net flow set → (i j : ℕ) → i < net.size → j < net.size → IsMember set j → IsUnbounded net (suc j) (suc i) → IsMember set i
 reach_more net flow set r i j a b member edge =
-    let step : IsResidualStep net flow (suc j) (suc i) = record { in_range = omega (arith, a); step = inl edge } in
+    let step : IsResidualStep net flow (suc j) (suc i) = step_of_kind net flow (suc j) (suc i) (omega (arith, a)) (inl edge) in
     (r.exact i a).1 (reach_on ((r.exact j b).0 member) step)
 
 module _ (by : Measure) (w : Written) (first : Places) (rotations : List (List (ℕ × ℕ))) (needs : List (List ℕ)) (needed : AreNeeds (seat_market w) rotations needs) where

@@ -1,5 +1,5 @@
 -- The answer of `weight` of specs/Witnesses.antt.
-use Rattle.std.proofs.Common.{◌≡◌, ◌≢◌, ℕ, zero, suc, ◌<◌, ◌≤◌, ◌↔◌, inl, inr, true, Bool, List, [], ◌∷◌, length, refl, ap, arith}
+use Rattle.std.proofs.Common.{◌≡◌, ◌≢◌, ℕ, zero, suc, ◌<◌, ◌≤◌, ◌↔◌, true, Bool, List, [], ◌∷◌, length, refl, ap, arith}
 use Rattle.std.specs.Prelude.{ℤ, pos, negsuc}
 use Rattle.std.specs.List.{All}
 use Rattle.std.specs.Int.RustNames.{unsigned_abs}
@@ -97,10 +97,10 @@ reach = record {
 }
   where
     to_second : IsResidualStep three_cycle_net (amount_on three_cycle_lines) 0 2
-    to_second = record { in_range = omega arith; step = inr (inl (omega arith)) }
+    to_second = refl
 
     to_first : IsResidualStep three_cycle_net (amount_on three_cycle_lines) 2 1
-    to_first = record { in_range = omega arith; step = inl refl }
+    to_first = refl
 
 pub allowed : IsAllowed three_cycle_levels [] [] (matching_of three_cycle three_cycle_first three_cycle_chain set)
 allowed = record { holds = λ c h. absurd (omega (arith, h)); avoids = λ c h. absurd (omega (arith, h)) }

@@ -8,44 +8,18 @@ use Rattle.sm_market.specs.Vectors.{rows_of}
 use Rattle.sm_theory.specs.Rotations.{IsExposed, eliminated}
 use Rattle.sm_theory.specs.Chains.{rotation_at, stage, AreEliminable}
 use Rattle.sm_theory.proofs.Core.Chain.{needs_lower}
-use Rattle.sm_theory.proofs.Bridge.Chain.{rotation_at-push_before, rotation_at-push_new, stage_before, way_along, needs_of}
-use Rattle.sm_theory.proofs.Chains.Marks.{last_more, marks_more}
+use Rattle.sm_theory.proofs.Bridge.Chain.{rotation_at-push_before, rotation_at-push_new, eliminable_more, way_along, needs_of}
+use Rattle.sm_theory.proofs.Chains.Marks.{last_longer, marks_longer, last_pushed, marks_pushed}
 use Rattle.sm_rotations.specs.Graph.{times, AreFollowers, AreAddedTo}
 use Rattle.sm_rotations.specs.Marking.{AreLastMoves, AreMarks, AreMoved, AreMarked, IsFoundNeed, Adds}
 use Rattle.sm_rotations.specs.Noting.{AreNoted}
 use Rattle.sm_rotations.specs.declared.notes.Notes.{Notes}
 use Rattle.sm_rotations.proofs.ChainLemmas.{followed, found_in_range}
 
--- the same notes and marks of a longer chain
-last_longer : {rotations : List (List (ℕ × ℕ))} (rotation : List (ℕ × ℕ)) {n : ℕ} {notes : List (Option ℕ)} → n ≤ length rotations → AreLastMoves rotations n notes → AreLastMoves (rotations ++ rotation ∷ []) n notes
-last_longer {rotations} rotation {n} le a = record {
-  below = a.below;
-  moves = λ p i e. rw (rotation_at-push_before rotations rotation i (omega (arith, a.below p i e))) (a.moves p i e);
-  last = λ p i k e more less w. a.last p i k e more less (rw (rotation_at-push_before rotations rotation k (omega arith)) at w);
-  noted = λ p i less w. a.noted p i less (rw (rotation_at-push_before rotations rotation i (omega arith)) at w);
-}
-
-marks_longer : {l : Lists} {rotations : List (List (ℕ × ℕ))} (rotation : List (ℕ × ℕ)) {n : ℕ} {marks : List (List (Option ℕ))} → n ≤ length rotations → AreMarks l rotations n marks → AreMarks l (rotations ++ rotation ∷ []) n marks
-marks_longer {l} {rotations} rotation {n} le a = record {
-  for_entries = a.for_entries;
-  below = a.below;
-  moves = λ p x i e. rw (rotation_at-push_before rotations rotation i (omega (arith, a.below p x i e))) (a.moves p x i e);
-  all = λ p x i on less w. a.all p x i on less (rw (rotation_at-push_before rotations rotation i (omega arith)) at w);
-}
-
 -- one more rotation in the chain
 module _ {l : Lists} {first m : Places} {rotations : List (List (ℕ × ℕ))} (chain : AreEliminable l first rotations) (is : m ≡ stage l first rotations (length rotations)) (rotation : List (ℕ × ℕ)) (x : IsExposed l m rotation) where
-  there : (k : ℕ) → k ≡ length rotations → stage l first (rotations ++ rotation ∷ []) k ≡ m
-  there k e = stage_before l first rotations rotation k (omega arith) ∙ ap (stage l first rotations) e ∙ sym is
-
-  -- one that is exposed where the chain leads can be eliminated behind it
-  pub eliminable_more : AreEliminable l first (rotations ++ rotation ∷ [])
-  eliminable_more = record {
-    exposed = λ k less. elim (eq_or_ne k (length rotations)) [
-      | inl e ↦ rw (there k e, rotation_at-push_new rotations rotation k e) x
-      | inr ne ↦ rw (stage_before l first rotations rotation k (omega (arith, length_push rotations rotation)), rotation_at-push_before rotations rotation k (omega (arith, length_push rotations rotation))) (chain.exposed k (omega (arith, length_push rotations rotation)))
-    ];
-  }
+  longer : AreEliminable l first (rotations ++ rotation ∷ [])
+  longer = eliminable_more rotation chain is x
 
   -- nobody of the chain needs the one behind it
   pub followers_longer : IsMarket l → IsMatching l first → {followers : List (List ℕ)} → AreFollowers l rotations (length rotations) followers → AreFollowers l (rotations ++ rotation ∷ []) (length rotations) (followers ++ [] ∷ [])
@@ -59,7 +33,7 @@ module _ {l : Lists} {first m : Places} {rotations : List (List (ℕ × ℕ))} (
     ];
     all = λ i j below within need. elim (lt_or_le i (length rotations)) [
       | inl less ↦ rw (old i less) (a.all i j below less (rw (rotation_at-push_before rotations rotation i less, rotation_at-push_before rotations rotation j below) at need))
-      | inr more ↦ absurd (omega (arith, needs_lower (way_along h f eliminable_more) i j within (omega (arith, length_push rotations rotation, below)) (needs_of h need)))
+      | inr more ↦ absurd (omega (arith, needs_lower (way_along h f longer) i j within (omega (arith, length_push rotations rotation, below)) (needs_of h need)))
     ];
     once = λ i j. elim (lt_or_le i (length rotations)) [
       | inl less ↦ rw (old i less) (a.once i j)
@@ -85,27 +59,24 @@ module _ {l : Lists} {first m : Places} {rotations : List (List (ℕ × ℕ))} (
   found_within h f {notes} {marks} last marked {found} adds a less =
       let new : rotation_at (rotations ++ rotation ∷ []) (length rotations) ≡ rotation = rotation_at-push_new rotations rotation (length rotations) refl in
       let inside : length rotations < length (rotations ++ rotation ∷ []) = omega (arith, length_push rotations rotation) in
-      omega (arith, length_push rotations rotation, found_in_range h f eliminable_more inside (last_longer rotation (omega arith) last) (marks_longer rotation (omega arith) marked) (rw new adds) a less)
+      omega (arith, length_push rotations rotation, found_in_range h f longer inside (last_longer rotation (omega arith) last) (marks_longer rotation (omega arith) marked) (rw new adds) a less)
 
   -- once it is noted and added to what is found for it, the longer chain is noted
   module _ (h : IsMarket l) {notes : Notes} (a : AreNoted l first rotations notes) {found : List ℕ} (adds : Adds (λ i. IsFoundNeed l rotation (length rotation) notes.last.items notes.marks i) [] found) where
     pub noted_more : (after : Notes) → AreMoved rotation (length rotation) (length rotations) notes.last.items after.last.items → AreMarked l rotation (length rotation) (length rotations) notes.marks after.marks
         → AreAddedTo (length rotations) found (rows_of notes.followers.items ++ [] ∷ []) (rows_of after.followers.items) → AreNoted l first (rotations ++ rotation ∷ []) after
     noted_more after moved marked added =
-        let longer = eliminable_more in
         let long : length rotations + 1 ≡ length (rotations ++ rotation ∷ []) = sym (length_push rotations rotation) in
         let new : rotation_at (rotations ++ rotation ∷ []) (length rotations) ≡ rotation = rotation_at-push_new rotations rotation (length rotations) refl in
         let inside : length rotations < length (rotations ++ rotation ∷ []) = omega arith in
-        let moved' : AreMoved (rotation_at (rotations ++ rotation ∷ []) (length rotations)) (length (rotation_at (rotations ++ rotation ∷ []) (length rotations))) (length rotations) notes.last.items after.last.items = rw new moved in
-        let marked' : AreMarked l (rotation_at (rotations ++ rotation ∷ []) (length rotations)) (length (rotation_at (rotations ++ rotation ∷ []) (length rotations))) (length rotations) notes.marks after.marks = rw new marked in
         let before = last_longer rotation (omega arith) a.last in
         let before' = marks_longer rotation (omega arith) a.marks in
         record {
           matching = a.matching;
           eliminable = longer;
           one_each = moved.one_each ∙ a.one_each;
-          last = rw long at (last_more h a.matching longer before moved');
-          marks = rw long at (marks_more h a.matching longer inside before' marked');
+          last = last_pushed rotation a.last moved;
+          marks = marks_pushed rotation h a.matching longer a.marks marked;
           followers = rw long at (followed h a.matching longer inside before before' (rw new adds) (followers_longer h a.matching a.followers) added);
         }
 

@@ -1,8 +1,8 @@
 -- Flows in a net, and what their residual steps reach.
-use Rattle.std.specs.Prelude.{◌≡◌, ℕ, suc, ◌<◌, ◌≤◌, ◌⊎◌, ◌↔◌, Bool, List, length}
+use Rattle.std.specs.Prelude.{◌≡◌, ℕ, suc, ◌<◌, ◌≤◌, ◌↔◌, nat_lt, ◌&&◌, ◌||◌, Bool, true, List, length}
 use Rattle.sm_theory.specs.ClosedSets.{IsMember}
 use Rattle.sm_lists.specs.Sums.{sum_to}
-use Rattle.sm_theory.specs.Net.{Net, sink_of, room_of, IsUnbounded, IsReachable}
+use Rattle.sm_theory.specs.Net.{Net, sink_of, room_of, is_unbounded, IsUnbounded, IsReachable}
 
 -- an amount on each edge, within its room, such that as much comes to each inner node as leaves it
 -- (Ford and Fulkerson 1956)
@@ -14,10 +14,14 @@ pub record IsFlow (net : Net) (flow : ℕ → ℕ → ℕ) : Type 0 where
 abbrev pub flow_value : Net → (ℕ → ℕ → ℕ) → ℕ
 flow_value net flow = sum_to (flow 0) (suc (sink_of net))
 
--- a step along an edge with room left, or against an edge with a positive amount (Ford and Fulkerson 1956)
-pub record IsResidualStep (net : Net) (flow : ℕ → ℕ → ℕ) (i j : ℕ) : Type 0 where
-  pub in_range : j < suc (sink_of net)
-  pub step : IsUnbounded net i j ⊎ ((flow i j < room_of net i j) ⊎ (0 < flow j i))
+-- a step to a node of the net along an edge with room left, or against an edge with a positive amount
+-- (Ford and Fulkerson 1956)
+abbrev pub is_residual_step : Net → (flow : ℕ → ℕ → ℕ) → ℕ → ℕ → Bool
+is_residual_step net flow i j = nat_lt j (suc (sink_of net)) && (is_unbounded net i j || (nat_lt (flow i j) (room_of net i j) || nat_lt 0 (flow j i)))
+
+-- the step from i to j is one
+abbrev pub IsResidualStep : Net → (flow : ℕ → ℕ → ℕ) → ℕ → ℕ → Type 0
+IsResidualStep net flow i j = is_residual_step net flow i j ≡ true
 
 -- the set of the rotations to which a path of residual steps leads from the source
 pub record IsResidualReach (net : Net) (flow : ℕ → ℕ → ℕ) (set : List Bool) : Type 0 where

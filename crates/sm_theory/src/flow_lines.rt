@@ -10,3 +10,12 @@ pub struct FlowLine {
     /// The amount, in the unit of the weights.
     pub amount: u64,
 }
+
+/// One of two flows: the second lies in the net of the residual steps of the first.
+#[derive(Debug, Clone, Copy, PartialEq, Eq)]
+pub enum FlowLevel {
+    /// The first weights' flow.
+    First,
+    /// The second weights' flow.
+    Second,
+}

@@ -21,7 +21,7 @@ pub use chain::Chain;
 pub use choice::{Choice, chosen_place};
 pub use closed_set::ClosedSet;
 pub use elimination::eliminate;
-pub use flow_lines::FlowLine;
+pub use flow_lines::{FlowLevel, FlowLine};
 pub use mark::Mark;
 pub use marks::{Marks, mark_span, note_movers};
 pub use rotations::{Rotation, is_exposed, successor, would_take};

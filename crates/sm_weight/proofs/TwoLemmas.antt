@@ -10,6 +10,7 @@ use Rattle.sm_theory.specs.Flows.{flow_value, IsResidualReach}
 use Rattle.sm_theory.specs.FlowLines.{amount_on}
 use Rattle.sm_theory.specs.Conditions.{allows_nothing, net_of, IsNetGround}
 use Rattle.sm_theory.specs.SecondNets.{second_net, second_net_of, IsLightestOfTwo}
+use Rattle.sm_theory.proofs.Flow.Steps.{step_end}
 use Rattle.sm_theory.proofs.Flow.Cuts.{path_stays, value_is_cut}
 use Rattle.sm_theory.proofs.Flow.Second.{step_of_edge, bounded_of_unleft, cut_of_unleft, zero_second_flow}
 use Rattle.sm_theory.proofs.Weighing.Second.{second_reach_is_best}
@@ -25,7 +26,7 @@ pub no_second_path : (net : Net) (gains : List ℤ) {members : List Bool} {lines
     → IsReachable (IsUnbounded (second_net net (amount_on lines) (gain_at gains))) 0 (suc net.size) → ⊥
 no_second_path net gains {members} {lines} found path =
     let other : Net = second_net net (amount_on lines) (gain_at gains) in
-    let inside = path_stays (second_net net (amount_on lines) (gain_at gains)) (IsUnbounded (second_net net (amount_on lines) (gain_at gains))) members (λ i j u. (step_of_edge net (amount_on lines) (gain_at gains) i j u).in_range)
+    let inside = path_stays (second_net net (amount_on lines) (gain_at gains)) (IsUnbounded (second_net net (amount_on lines) (gain_at gains))) members (λ i j u. step_end net (amount_on lines) i j (step_of_edge net (amount_on lines) (gain_at gains) i j u))
     (bounded_of_unleft net (amount_on lines) (gain_at gains) members found.unleft) path.path 0 (suc net.size) (omega arith) refl path.is in
     false≢true (sym (get_or_past members net.size false (omega (arith, found.reach.one_each))) ∙ inside)
 

@@ -2,12 +2,12 @@
 pub use Rattle.sm_market.proofs.Bridge.{places_equal, stable_equal}
 use Rattle.std.proofs.Common.{◌≡◌, ℕ, zero, suc, ◌<◌, ◌≤◌, inl, inr, arith, refl, sym, ap, ◌∙◌, List, [], ◌∷◌, ◌++◌, length, map, Bool, true, false, slice_index_or}
 use Rattle.std.specs.List.{range_with_len}
-use Rattle.std.proofs.lemmas.List.{get_or_append_left, get_or_push}
+use Rattle.std.proofs.lemmas.List.{length_push, get_or_append_left, get_or_push}
 use Rattle.std.proofs.lemmas.List.FromFn.{get_or-map-range_with_len, length-map-range_with_len}
 use Rattle.sm_market.specs.Lists.{Lists, IsMarket}
 use Rattle.sm_market.specs.Matching.{Places, standing, IsMatching}
 use Rattle.sm_market.specs.Stable.{IsStable}
-use Rattle.sm_lists.proofs.Counting.{Decided, lt_or_le}
+use Rattle.sm_lists.proofs.Counting.{Decided, lt_or_le, eq_or_ne}
 use Rattle.sm_market.proofs.Core.{Sides, Stand, Stable}
 use Rattle.sm_market.proofs.Bridge.{sides_of, stand_of, fit_of, stable_of}
 use Rattle.sm_theory.specs.Rotations.{proposer_at, reviewer_at, IsExposed, eliminated}
@@ -90,6 +90,19 @@ rotation_at-push_new xs x k e = get_or_push xs x [] k (sym e)
 pub stage_before : (l : Lists) (first : Places) (xs : List (List (ℕ × ℕ))) (x : List (ℕ × ℕ)) (k : ℕ) → k ≤ length xs → stage l first (xs ++ x ∷ []) k ≡ stage l first xs k
 stage_before l first xs x zero le = refl
 stage_before l first xs x (suc k) le = ap (λ m. eliminated l m (rotation_at (xs ++ x ∷ []) k)) (stage_before l first xs x k (omega arith)) ∙ ap (eliminated l (stage l first xs k)) (rotation_at-push_before xs x k (omega arith))
+
+-- one that is exposed where the rotations lead can be eliminated behind them
+pub eliminable_more : {l : Lists} {first m : Places} {rotations : List (List (ℕ × ℕ))} (rotation : List (ℕ × ℕ)) → AreEliminable l first rotations → m ≡ stage l first rotations (length rotations) → IsExposed l m rotation
+    → AreEliminable l first (rotations ++ rotation ∷ [])
+eliminable_more {l} {first} {m} {rotations} rotation chain is x = record {
+  exposed = λ k less. elim (eq_or_ne k (length rotations)) [
+    | inl e ↦ rw (there k e, rotation_at-push_new rotations rotation k e) x
+    | inr ne ↦ rw (stage_before l first rotations rotation k (omega (arith, length_push rotations rotation)), rotation_at-push_before rotations rotation k (omega (arith, length_push rotations rotation))) (chain.exposed k (omega (arith, length_push rotations rotation)))
+  ];
+}
+  where
+    there : (k : ℕ) → k ≡ length rotations → stage l first (rotations ++ rotation ∷ []) k ≡ m
+    there k e = stage_before l first rotations rotation k (omega arith) ∙ ap (stage l first rotations) e ∙ sym is
 
 -- rotations that can be eliminated lead from matching to matching
 module _ {l : Lists} (h : IsMarket l) {first : Places} (f : IsMatching l first) {rotations : List (List (ℕ × ℕ))} (chain : AreEliminable l first rotations) where

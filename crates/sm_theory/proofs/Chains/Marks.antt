@@ -1,5 +1,6 @@
 -- What is noted of rotations that are eliminated one after the other tells what each one needs.
-use Rattle.std.proofs.Common.{◌≡◌, ℕ, suc, ◌+◌, ◌<◌, inl, inr, arith, refl, sym, ap, ◌∙◌, List, length, Option, None, Some, IsSome}
+use Rattle.std.proofs.Common.{◌≡◌, ℕ, suc, ◌+◌, ◌<◌, ◌≤◌, inl, inr, arith, refl, sym, ap, ◌∙◌, List, [], ◌∷◌, ◌++◌, length, Option, None, Some, IsSome}
+use Rattle.std.proofs.lemmas.List.{length_push}
 use Rattle.std.proofs.lemmas.Option.{same_Some}
 use Rattle.sm_market.specs.Lists.{Lists, row, entry, place_of, IsMarket}
 use Rattle.sm_market.specs.Matching.{Places, IsMatching}
@@ -15,7 +16,7 @@ use Rattle.sm_theory.proofs.Core.Cycle as CoreCycle
 use Rattle.sm_theory.proofs.Core.Cycle.{Cycle, turn, turn_in, target, Exposed, moves_at}
 use Rattle.sm_theory.proofs.Core.Chain.{rise, fall, up_at, moved_to, needs_lower, last_needed}
 use Rattle.sm_theory.proofs.Bridge.Rotation.{cycle_of}
-use Rattle.sm_theory.proofs.Bridge.Chain.{way_along, needs_of, needs_back}
+use Rattle.sm_theory.proofs.Bridge.Chain.{rotation_at-push_before, rotation_at-push_new, way_along, needs_of, needs_back}
 
 -- a rotation that moves p over lists moves it as a cycle
 pub moves_core : {rotation : List (ℕ × ℕ)} {p : ℕ} → Moves rotation (length rotation) p → CoreCycle.Moves (cycle_of rotation) p
@@ -30,6 +31,40 @@ noted_number : (o : Option ℕ) → IsSome o → IsNoted o
 noted_number None x = absurd (grind (arith, x))
 noted_number (Some i) x = record { number = i; is = refl }
 
+-- once all pairs of rotation j are noted, the notes are those of one rotation more
+pub last_more : {rotations : List (List (ℕ × ℕ))} {j : ℕ} {before after : List (Option ℕ)} → AreLastMoves rotations j before → AreMoved (rotation_at rotations j) (length (rotation_at rotations j)) j before after → AreLastMoves rotations (j + 1) after
+last_more {rotations} {j} {before} {after} a m = record {
+  below = λ p i e. elim (m.only p) [
+    | inl same ↦ let b = a.below p i (sym same ∙ e) in omega arith
+    | inr w ↦ let x : j ≡ i = same_Some _ _ (sym w.0 ∙ e) in omega arith
+  ];
+  moves = λ p i e. elim (m.only p) [
+    | inl same ↦ a.moves p i (sym same ∙ e)
+    | inr w ↦ let x : j ≡ i = same_Some _ _ (sym w.0 ∙ e) in rw x at w.1
+  ];
+  last = λ p i k e less below w. elim (m.only p) [
+    | inl same ↦ elim (eq_or_ne k j) [
+      | inl x ↦
+          let v : Moves (rotation_at rotations j) (length (rotation_at rotations j)) p = rw x at w in
+          let now : note_of after p ≡ Some j = rw v.is at (m.moved v.pair v.pair_in) in
+          let b = a.below p i (sym same ∙ e) in
+          let y : j ≡ i = same_Some _ _ (sym now ∙ e) in omega arith
+      | inr x ↦ a.last p i k (sym same ∙ e) less (omega arith) w
+    ]
+    | inr v ↦ let x : j ≡ i = same_Some _ _ (sym v.0 ∙ e) in omega arith
+  ];
+  noted = λ p i below w. elim (m.only p) [
+    | inr v ↦ rw v.0 refl
+    | inl same ↦ elim (eq_or_ne i j) [
+      | inl x ↦
+          let v : Moves (rotation_at rotations j) (length (rotation_at rotations j)) p = rw x at w in
+          let now : note_of after p ≡ Some j = rw v.is at (m.moved v.pair v.pair_in) in
+          rw now refl
+      | inr x ↦ rw same (a.noted p i (omega arith) w)
+    ]
+  ];
+}
+
 module _ {l : Lists} (h : IsMarket l) {first : Places} (f : IsMatching l first) {rotations : List (List (ℕ × ℕ))} (chain : AreEliminable l first rotations) where
   -- no two rotations move a reviewer over one entry
   pub once_over : (p x i j : ℕ) → i < j → j < length rotations → MovesOver l (rotation_at rotations i) (length (rotation_at rotations i)) p x → MovesOver l (rotation_at rotations j) (length (rotation_at rotations j)) p x → ⊥
@@ -40,40 +75,6 @@ module _ {l : Lists} (h : IsMarket l) {first : Places} (f : IsMatching l first) 
       let c : ℕ = length (rotation_at rotations j) in
       let old : Pair (sides_of l h) (stand_of l (stage l first rotations j)) (proposer_at (rotation_at rotations j) (next_in (rotation_at rotations j) v.pair)) r = rw v.reviewer at ((ch.exposed j inside).paired (turn c v.pair) (turn_in c v.pair v.pair_in)) in
       omega (arith, new.rank_is, old.rank_is, w.gains, v.loses, fall ch r (suc i) j (omega arith) (omega arith))
-
-  -- one more rotation
-  pub last_more : {j : ℕ} {before after : List (Option ℕ)} → AreLastMoves rotations j before → AreMoved (rotation_at rotations j) (length (rotation_at rotations j)) j before after → AreLastMoves rotations (j + 1) after
-  last_more {j} {before} {after} a m = record {
-    below = λ p i e. elim (m.only p) [
-      | inl same ↦ let b = a.below p i (sym same ∙ e) in omega arith
-      | inr w ↦ let x : j ≡ i = same_Some _ _ (sym w.0 ∙ e) in omega arith
-    ];
-    moves = λ p i e. elim (m.only p) [
-      | inl same ↦ a.moves p i (sym same ∙ e)
-      | inr w ↦ let x : j ≡ i = same_Some _ _ (sym w.0 ∙ e) in rw x at w.1
-    ];
-    last = λ p i k e less below w. elim (m.only p) [
-      | inl same ↦ elim (eq_or_ne k j) [
-        | inl x ↦
-            let v : Moves (rotation_at rotations j) (length (rotation_at rotations j)) p = rw x at w in
-            let now : note_of after p ≡ Some j = rw v.is at (m.moved v.pair v.pair_in) in
-            let b = a.below p i (sym same ∙ e) in
-            let y : j ≡ i = same_Some _ _ (sym now ∙ e) in omega arith
-        | inr x ↦ a.last p i k (sym same ∙ e) less (omega arith) w
-      ]
-      | inr v ↦ let x : j ≡ i = same_Some _ _ (sym v.0 ∙ e) in omega arith
-    ];
-    noted = λ p i below w. elim (m.only p) [
-      | inr v ↦ rw v.0 refl
-      | inl same ↦ elim (eq_or_ne i j) [
-        | inl x ↦
-            let v : Moves (rotation_at rotations j) (length (rotation_at rotations j)) p = rw x at w in
-            let now : note_of after p ≡ Some j = rw v.is at (m.moved v.pair v.pair_in) in
-            rw now refl
-        | inr x ↦ rw same (a.noted p i (omega arith) w)
-      ]
-    ];
-  }
 
   -- once all pairs of rotation j are marked, the marks are those of one rotation more
   pub marks_more : {j : ℕ} {before after : List (List (Option ℕ))} → j < length rotations → AreMarks l rotations j before → AreMarked l (rotation_at rotations j) (length (rotation_at rotations j)) j before after → AreMarks l rotations (j + 1) after
@@ -174,3 +175,37 @@ module _ {l : Lists} (h : IsMarket l) {first : Places} (f : IsMatching l first) 
             marked = m.all p x i on early (record { pair = w.pair; pair_in = w.pair_in; reviewer = sym here; gains = rw here w.gains; loses = rw here w.loses });
           };
         })
+
+-- one more rotation behind others
+module _ {rotations : List (List (ℕ × ℕ))} (rotation : List (ℕ × ℕ)) where
+  -- what is noted of the first n stays so
+  pub last_longer : {n : ℕ} {notes : List (Option ℕ)} → n ≤ length rotations → AreLastMoves rotations n notes → AreLastMoves (rotations ++ rotation ∷ []) n notes
+  last_longer {n} le a = record {
+    below = a.below;
+    moves = λ p i e. rw (rotation_at-push_before rotations rotation i (omega (arith, a.below p i e))) (a.moves p i e);
+    last = λ p i k e more less w. a.last p i k e more less (rw (rotation_at-push_before rotations rotation k (omega arith)) at w);
+    noted = λ p i less w. a.noted p i less (rw (rotation_at-push_before rotations rotation i (omega arith)) at w);
+  }
+
+  -- and so are their marks
+  pub marks_longer : {l : Lists} {n : ℕ} {marks : List (List (Option ℕ))} → n ≤ length rotations → AreMarks l rotations n marks → AreMarks l (rotations ++ rotation ∷ []) n marks
+  marks_longer {l} {n} le a = record {
+    for_entries = a.for_entries;
+    below = a.below;
+    moves = λ p x i e. rw (rotation_at-push_before rotations rotation i (omega (arith, a.below p x i e))) (a.moves p x i e);
+    all = λ p x i on less w. a.all p x i on less (rw (rotation_at-push_before rotations rotation i (omega arith)) at w);
+  }
+
+  -- once all its pairs are noted, the notes are those of all
+  pub last_pushed : {before after : List (Option ℕ)} → AreLastMoves rotations (length rotations) before → AreMoved rotation (length rotation) (length rotations) before after
+      → AreLastMoves (rotations ++ rotation ∷ []) (length (rotations ++ rotation ∷ [])) after
+  last_pushed {before} {after} a m =
+      let moved : AreMoved (rotation_at (rotations ++ rotation ∷ []) (length rotations)) (length (rotation_at (rotations ++ rotation ∷ []) (length rotations))) (length rotations) before after = rw (rotation_at-push_new rotations rotation (length rotations) refl) m in
+      rw (sym (length_push rotations rotation)) at (last_more (last_longer (omega arith) a) moved)
+
+  -- once they are marked, the marks are those of all
+  pub marks_pushed : {l : Lists} → IsMarket l → {first : Places} → IsMatching l first → AreEliminable l first (rotations ++ rotation ∷ []) → {before after : List (List (Option ℕ))} → AreMarks l rotations (length rotations) before
+      → AreMarked l rotation (length rotation) (length rotations) before after → AreMarks l (rotations ++ rotation ∷ []) (length (rotations ++ rotation ∷ [])) after
+  marks_pushed {l} h f chain {before} {after} a m =
+      let marked : AreMarked l (rotation_at (rotations ++ rotation ∷ []) (length rotations)) (length (rotation_at (rotations ++ rotation ∷ []) (length rotations))) (length rotations) before after = rw (rotation_at-push_new rotations rotation (length rotations) refl) m in
+      rw (sym (length_push rotations rotation)) at (marks_more h f chain (omega (arith, length_push rotations rotation)) (marks_longer (omega arith) a) marked)

@@ -1,6 +1,6 @@
 -- How it is decided that no exposed rotation has a proposer below a bound: a proposer is safe where each exposed rotation that
 -- has it has no proposer below the bound.
-use Rattle.std.proofs.Common.{◌≡◌, ℕ, ◌<◌, ◌≤◌, List, length, inl, inr, arith, refl, sym}
+use Rattle.std.proofs.Common.{◌≡◌, ℕ, ◌<◌, ◌≤◌, List, length, inl, inr, arith, sym}
 use Rattle.sm_lists.proofs.Counting.{lt_or_le}
 use Rattle.sm_market.proofs.Core.{Sides, Stand, Pair, one_proposer}
 use Rattle.sm_market.specs.Lists.{Lists, IsMarket}
@@ -37,13 +37,6 @@ safe_round {s} {m} {bound} {d} y all i h = record {
       let w = same_cycle x y a i b h (sym e) j k in
       rw w.who_is at (all w.at w.below);
 }
-
--- where all below the bound are safe, no exposed rotation has a proposer below it
-pub none_below : {s : Sides} {m : Stand} {bound : ℕ} → ((p : ℕ) → p < bound → Safe s m bound p) → (c : Cycle) → Exposed s m c → (j : ℕ) → j < c.size → bound ≤ c.who j
-none_below {s} {m} {bound} all c x j k = elim (lt_or_le (c.who j) bound) [
-  | inr more ↦ more
-  | inl less ↦ (all (c.who j) less).safe c x j k refl j k
-]
 
 in_list : (l : Lists) (m : Places) (h : IsMarket l) (s : IsStable l m) (other : List (ℕ × ℕ)) → IsExposed l m other → proposer_at other 0 < length l.proposers
 in_list l m h s other x = elim (lt_or_le (proposer_at other 0) (length l.proposers)) [

@@ -9,6 +9,7 @@ use Rattle.sm_theory.specs.Net.{Net, sink_of, room_of, IsUnbounded, is_in, NoneL
 use Rattle.sm_theory.specs.Flows.{IsFlow, flow_value, IsResidualStep}
 use Rattle.sm_theory.specs.LawsFlows.{NoFlowAboveCut, ReachIsLeastCut}
 use Rattle.sm_lists.proofs.Sums.{sum_same, sum_le, sum_none, sum_plus, sum_first, sum_swap, sum_tight, sum_cond}
+use Rattle.sm_theory.proofs.Flow.Steps.{step_kind, step_end, step_of_kind}
 
 abbrev nodes : Net → ℕ
 nodes net = suc (suc net.size)
@@ -190,24 +191,24 @@ module _ (net : Net) (set : List Bool) (one : length set ≡ net.size) where
         full = sum_same (nodes net) _ _ (λ i a. sum_same (nodes net) _ _ (λ j b. compare (λ m n. m ≡ n) x flow (room_of net) i j refl (λ p q.
             let out = none i j a b (sym (x_is i) ∙ p) (sym (x_is j) ∙ q) in
             elim (lt_or_le (flow i j) (room_of net i j)) [
-              | inl less ↦ absurd (out (record { in_range = b; step = inr (inl less) }))
-              | inr more ↦ omega (arith, h.within i j (λ u. out (record { in_range = b; step = inl u })))
+              | inl less ↦ absurd (out (step_of_kind net flow i j b (inr (inl less))))
+              | inr more ↦ omega (arith, h.within i j (λ u. out (step_of_kind net flow i j b (inl u))))
             ])))
 
         empty : entering ≡ 0
         empty = sum_none (nodes net) _ (λ i a. sum_none (nodes net) _ (λ j b. compare (λ m n. m ≡ 0) x (λ i j. flow j i) (λ i j. 0) i j refl (λ p q.
             let out = none i j a b (sym (x_is i) ∙ p) (sym (x_is j) ∙ q) in
             elim (lt_or_le 1 (flow j i)) [
-              | inl more ↦ absurd (out (record { in_range = b; step = inr (inr (omega arith)) }))
+              | inl more ↦ absurd (out (step_of_kind net flow i j b (inr (inr (omega arith)))))
               | inr less ↦ elim (eq_or_ne (flow j i) 0) [
                 | inl e ↦ e
-                | inr e ↦ absurd (out (record { in_range = b; step = inr (inr (omega arith)) }))
+                | inr e ↦ absurd (out (step_of_kind net flow i j b (inr (inr (omega arith)))))
               ]
             ])))
 
     -- no residual step leaves a cut that isn't above the value
     pub none_leaves : IsCut net set → cut_of net set ≤ flow_value net flow → NoneLeaves net (IsResidualStep net flow) set
-    none_leaves c le i j a b p q w = go w.step
+    none_leaves c le i j a b p q w = go (step_kind net flow i j w)
       where
         rows : both_sums (nodes net) (out_of x (room_of net)) ≤ leaving
         rows = omega (arith, balance, cut_is)
@@ -254,13 +255,13 @@ reach_is_least_cut net flow set h r none = (
   λ other c k m.
       let k_in : k < net.size = member_in k m in
       let w = (r.exact k k_in).0 m in
-      path_stays net (IsResidualStep net flow) other (λ i j s. s.in_range)
+      path_stays net (IsResidualStep net flow) other (step_end net flow)
       (none_leaves net other c.cut.one_each flow h c.cut (omega (arith, value, c.least set cut)))
       w.path 0 (suc k) (omega arith) refl w.is,
 )
   where
     cut : IsCut net set
-    cut = record { one_each = r.one_each; bounded = λ i j a b p q u. none i j a b p q (record { in_range = b; step = inl u }) }
+    cut = record { one_each = r.one_each; bounded = λ i j a b p q u. none i j a b p q (step_of_kind net flow i j b (inl u)) }
 
     value : flow_value net flow ≡ cut_of net set
     value = value_is_cut net set r.one_each flow h none
