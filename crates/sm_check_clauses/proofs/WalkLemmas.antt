@@ -11,13 +11,11 @@ use Rattle.sm_market.specs.Pairing.{Paired, IsPairingOf}
 use Rattle.sm_market.specs.Stable.{IsStable}
 use Rattle.sm_theory.specs.Rotations.{IsExposed, IsLowestExposed, IsNothingExposed, eliminated}
 use Rattle.sm_theory.specs.Chains.{stage, rotation_at, AreNeedsOf}
-use Rattle.sm_theory.proofs.Bridge.Chain.{stage_before, rotation_at-push_before, rotation_at-push_new}
+use Rattle.sm_theory.proofs.Bridge.Chain.{stage_before, rotation_at-push_before, rotation_at-push_new, eliminable_more}
 use Rattle.sm_check_net.specs.declared.moves.Move.{Move}
 use Rattle.sm_check_net.specs.Moves.{moves_in, row_of_moves, AreRotationMoves, AreOnLists}
-use Rattle.sm_successors.specs.Search.{IsSearchAt}
+use Rattle.sm_check_decide.specs.Exposure.{IsSearchOf}
 use Rattle.sm_check_decide.specs.Noting.{IsNotesFor, AreNoted}
-use Rattle.sm_check_decide.proofs.NotingLemmas.{eliminable_more}
-use Rattle.sm_successors.proofs.SearchLemmas.{search_goes_on}
 use Rattle.sm_seats.specs.SeatMarket.{seat_market}
 use Rattle.sm_report.specs.declared.lines.Seat.{Seat}
 use Rattle.sm_report.specs.declared.lines.Line.{Line}
@@ -91,7 +89,7 @@ module _ {l : Lists} {first : Places} {rotations : List (List (ℕ × ℕ))} {wa
       omega (arith, short, length_push rotations rotation, k.noted.count, k.most)
 
   -- the walk with all that is kept of it has taken one step more
-  pub stepped : (after : ChainWalk) → after.first ≡ walk.first → AreChainMoves l (rotations ++ rotation ∷ []) (moves_in after.moves.items) → IsLowestExposed l walk.matching.places rotation → IsSearchAt l walk.matching.places after.search → IsPairingOf l after.matching → after.matching.places ≡ eliminated l walk.matching.places rotation
+  pub stepped : (after : ChainWalk) → after.first ≡ walk.first → AreChainMoves l (rotations ++ rotation ∷ []) (moves_in after.moves.items) → IsLowestExposed l walk.matching.places rotation → IsSearchOf l (eliminated l walk.matching.places rotation) after.search → IsPairingOf l after.matching → after.matching.places ≡ eliminated l walk.matching.places rotation
       → IsStable l after.matching.places → IsNotesFor l after.notes → after.notes.most ≡ walk.notes.most → AreNoted l first (rotations ++ rotation ∷ []) after.notes → after.is_whole ≡ walk.is_whole → HasStepped l first rotations rotation walk after
   stepped after from moves lowest search made moved stable notes most noted same = record {
     lowest = lowest;
@@ -104,7 +102,7 @@ module _ {l : Lists} {first : Places} {rotations : List (List (ℕ × ℕ))} {wa
       made = made;
       reached = moved ∙ ap (λ (m : Places). eliminated l m rotation) k.reached ∙ sym (stage_new l first rotations rotation);
       stable = stable;
-      search = subst (λ (m : Places). IsSearchAt l m after.search) (sym moved) (search_goes_on l walk.matching.places rotation after.search k.market k.stable lowest.exposed search);
+      search = subst (λ (m : Places). IsSearchOf l m after.search) (sym moved) search;
       notes = notes;
       most = most ∙ k.most;
       noted = noted;

@@ -8,7 +8,7 @@ use Rattle.sm_market.specs.Pairing.{IsPairingOf}
 use Rattle.sm_market.specs.Stable.{IsStable, IsProposersBest}
 use Rattle.sm_theory.specs.Rotations.{IsNothingExposed}
 use Rattle.sm_theory.specs.Chains.{stage}
-use Rattle.sm_successors.specs.Search.{IsSearchAt}
+use Rattle.sm_check_decide.specs.Exposure.{IsSearchOf}
 use Rattle.sm_check_decide.specs.Noting.{IsNotesFor, AreNoted}
 use Rattle.sm_check_net.specs.declared.moves.Move.{Move}
 use Rattle.sm_check_net.specs.Moves.{moves_in, row_of_moves, AreMovesByRotation, AreOnLists}
@@ -37,7 +37,7 @@ pub record IsChainWalk (l : Lists) (first : Places) (rotations : List (List (ℕ
   pub made : IsPairingOf l walk.matching
   pub reached : walk.matching.places ≡ stage l first rotations (length rotations)
   pub stable : IsStable l walk.matching.places
-  pub search : IsSearchAt l walk.matching.places walk.search
+  pub search : IsSearchOf l walk.matching.places walk.search
   pub notes : IsNotesFor l walk.notes
   pub most : walk.notes.most ≡ sum_by (λ list. length list) l.proposers
   pub noted : AreNoted l first rotations walk.notes

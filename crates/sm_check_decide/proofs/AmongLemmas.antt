@@ -7,10 +7,11 @@ use Rattle.sm_lists.proofs.Counting.{lt_or_le, eq_or_ne, one_to_one-le}
 use Rattle.sm_lists.proofs.PlaceLemmas.{get_or-place_on, place_on-lt}
 
 -- who is on a list has a place there
-place_in : (xs : List ℕ) (x : ℕ) → Contains xs x → place_on xs x < length xs
+pub place_in : (xs : List ℕ) (x : ℕ) → Contains xs x → place_on xs x < length xs
 place_in xs x w = place_on-lt xs x w.0 w.1 (sym (get_or_default xs w.0 x 0 w.1) ∙ w.2)
 
-contains_at : (xs : List ℕ) (x k : ℕ) → k < length xs → slice_index xs k ≡ x → Contains xs x
+-- who stands at a place of a list is on it
+pub contains_at : (xs : List ℕ) (x k : ℕ) → k < length xs → slice_index xs k ≡ x → Contains xs x
 contains_at xs x k less e = (k, less, get_or_default xs k x 0 less ∙ e)
 
 -- no number comes twice on a list

@@ -1,6 +1,7 @@
 pub mod TrailLemmas
 pub mod SafeLemmas
 pub mod SearchLemmas
+pub mod ChangeLemmas
 pub mod PathLemmas
 pub mod BestLemmas
 pub mod ReducedLemmas

@@ -1,5 +1,5 @@
 -- Rotations are noted, one after another.
-use Rattle.std.proofs.Common.{◌≡◌, ◌≢◌, ℕ, ◌+◌, ◌-◌, ◌<◌, ◌≤◌, ◌⊎◌, inl, inr, arith, refl, sym, ap, ◌∙◌, List, [], ◌∷◌, ◌++◌, length, slice_index, Option, None, Some}
+use Rattle.std.proofs.Common.{◌≡◌, ◌≢◌, ℕ, ◌+◌, ◌-◌, ◌<◌, ◌⊎◌, inl, inr, arith, refl, sym, ap, ◌∙◌, List, [], ◌∷◌, ◌++◌, length, slice_index, Option, None, Some}
 use Rattle.std.specs.List.{Contains}
 use Rattle.std.proofs.lemmas.List.{length_push, get_or_default}
 use Rattle.std.proofs.lemmas.Option.{same_Some}
@@ -12,10 +12,10 @@ use Rattle.sm_market.proofs.Bridge.{sides_of, stand_of}
 use Rattle.sm_theory.specs.Rotations.{IsExposed, proposer_at, reviewer_at, target_at, next_in}
 use Rattle.sm_theory.proofs.Core.Cycle.{turn, turn_in}
 use Rattle.sm_theory.proofs.Bridge.Rotation.{exposed_of}
-use Rattle.sm_theory.specs.Chains.{rotation_at, stage, AreEliminable, AreNeedsOf}
-use Rattle.sm_theory.specs.Marks.{note_of, marks_of, mark_at, AreLastMoves, AreMarksFor, AreMarks, AreMoved, AreMarked, IsBetween, IsFoundNeed, Adds}
-use Rattle.sm_theory.proofs.Bridge.Chain.{rotation_at-push_before, rotation_at-push_new, stage_before}
-use Rattle.sm_theory.proofs.Chains.Marks.{last_more, marks_more, found_is_need, need_is_found}
+use Rattle.sm_theory.specs.Chains.{rotation_at, stage, AreNeedsOf}
+use Rattle.sm_theory.specs.Marks.{note_of, marks_of, mark_at, AreMarksFor, AreMoved, AreMarked, IsBetween, IsFoundNeed, Adds}
+use Rattle.sm_theory.proofs.Bridge.Chain.{rotation_at-push_new, eliminable_more}
+use Rattle.sm_theory.proofs.Chains.Marks.{last_longer, marks_longer, last_pushed, marks_pushed, found_is_need, need_is_found}
 use Rattle.sm_theory.proofs.Chains.Marking.{adds_join, last_start, marks_start}
 use Rattle.sm_check_decide.proofs.AmongLemmas.{all_among, apart_rising, as_many}
 use Rattle.sm_check_decide.specs.Noting.{RotationNotes, AreNotesBelow, AreNoted}
@@ -65,64 +65,32 @@ module _ {l : Lists} {rotation : List (ℕ × ℕ)} {notes : List (Option ℕ)} 
           | inr e ↦ inl (inl (inr (record { pair = w.pair; pair_in = omega (arith, w.pair_in); between = w.between })))
         ]
 
--- the same notes and marks of a longer chain
-last_longer : {rotations : List (List (ℕ × ℕ))} (rotation : List (ℕ × ℕ)) {n : ℕ} {notes : List (Option ℕ)} → n ≤ length rotations → AreLastMoves rotations n notes → AreLastMoves (rotations ++ rotation ∷ []) n notes
-last_longer {rotations} rotation {n} le a = record {
-  below = a.below;
-  moves = λ p i e. rw (rotation_at-push_before rotations rotation i (omega (arith, a.below p i e))) (a.moves p i e);
-  last = λ p i k e more less w. a.last p i k e more less (rw (rotation_at-push_before rotations rotation k (omega arith)) at w);
-  noted = λ p i less w. a.noted p i less (rw (rotation_at-push_before rotations rotation i (omega arith)) at w);
-}
-
-marks_longer : {l : Lists} {rotations : List (List (ℕ × ℕ))} (rotation : List (ℕ × ℕ)) {n : ℕ} {marks : List (List (Option ℕ))} → n ≤ length rotations → AreMarks l rotations n marks → AreMarks l (rotations ++ rotation ∷ []) n marks
-marks_longer {l} {rotations} rotation {n} le a = record {
-  for_entries = a.for_entries;
-  below = a.below;
-  moves = λ p x i e. rw (rotation_at-push_before rotations rotation i (omega (arith, a.below p x i e))) (a.moves p x i e);
-  all = λ p x i on less w. a.all p x i on less (rw (rotation_at-push_before rotations rotation i (omega arith)) at w);
-}
-
 -- one more rotation in the chain
-module _ {l : Lists} {first : Places} {rotations : List (List (ℕ × ℕ))} (rotation : List (ℕ × ℕ)) where
-  -- one that is exposed where the chain leads can be eliminated behind it
-  pub eliminable_more : {m : Places} → AreEliminable l first rotations → m ≡ stage l first rotations (length rotations) → IsExposed l m rotation → AreEliminable l first (rotations ++ rotation ∷ [])
-  eliminable_more {m} chain is x = record {
-    exposed = λ k less. elim (eq_or_ne k (length rotations)) [
-      | inl e ↦ rw (there k e, rotation_at-push_new rotations rotation k e) x
-      | inr ne ↦ rw (stage_before l first rotations rotation k (omega (arith, length_push rotations rotation)), rotation_at-push_before rotations rotation k (omega (arith, length_push rotations rotation))) (chain.exposed k (omega (arith, length_push rotations rotation)))
-    ];
-  }
-    where
-      there : (k : ℕ) → k ≡ length rotations → stage l first (rotations ++ rotation ∷ []) k ≡ m
-      there k e = stage_before l first rotations rotation k (omega arith) ∙ ap (stage l first rotations) e ∙ sym is
-
-  module _ (h : IsMarket l) {m : Places} {last last' : List (Option ℕ)} {marks marks' : List (List (Option ℕ))} {most j most' j' : ℕ} {old found : List ℕ}
-      (a : AreNoted l first rotations (record { most = most; count = j; last = last; marks = marks; found = old })) (is : m ≡ stage l first rotations (length rotations)) (x : IsExposed l m rotation) where
-    -- one more rotation is noted, and it is found what it needs
-    pub noted_more : AreMoved rotation (length rotation) j last last' → AreMarked l rotation (length rotation) j marks marks' → Adds (λ i. IsFoundNeed l rotation (length rotation) last marks i) [] found → j' ≡ j + 1
-        → AreNoted l first (rotations ++ rotation ∷ []) (record { most = most'; count = j'; last = last'; marks = marks'; found = found })
-    noted_more moved marked adds count =
-        let chain = eliminable_more a.eliminable is x in
-        let long : length rotations + 1 ≡ length (rotations ++ rotation ∷ []) = sym (length_push rotations rotation) in
-        let new : rotation_at (rotations ++ rotation ∷ []) (length rotations) ≡ rotation = rotation_at-push_new rotations rotation (length rotations) refl in
-        let inside : length rotations < length (rotations ++ rotation ∷ []) = omega arith in
-        let moved' : AreMoved (rotation_at (rotations ++ rotation ∷ []) (length rotations)) (length (rotation_at (rotations ++ rotation ∷ []) (length rotations))) (length rotations) last last' = rw new (rw a.count at moved) in
-        let marked' : AreMarked l (rotation_at (rotations ++ rotation ∷ []) (length rotations)) (length (rotation_at (rotations ++ rotation ∷ []) (length rotations))) (length rotations) marks marks' = rw new (rw a.count at marked) in
-        let before = last_longer rotation (omega arith) a.last in
-        let before' = marks_longer rotation (omega arith) a.marks in
-        let newest : length (rotations ++ rotation ∷ []) - 1 ≡ length rotations = omega arith in
-        record {
-          matching = a.matching;
-          eliminable = chain;
-          count = omega (arith, a.count);
-          last = rw long at (last_more h a.matching chain before moved');
-          marks = rw long at (marks_more h a.matching chain inside before' marked');
-          sound = λ i w. rw newest (elim (adds.only i w) [
-            | inl none ↦ absurd (omega (arith, none.1))
-            | inr is_found ↦ found_is_need h a.matching chain inside before before' i (rw new is_found)
-          ]);
-          all = λ i less need. adds.added i (rw new at (need_is_found h a.matching chain inside before before' i less (rw newest at need)));
-        }
+module _ {l : Lists} {first : Places} {rotations : List (List (ℕ × ℕ))} (rotation : List (ℕ × ℕ)) (h : IsMarket l) {m : Places} {last last' : List (Option ℕ)} {marks marks' : List (List (Option ℕ))} {most j most' j' : ℕ} {old found : List ℕ}
+    (a : AreNoted l first rotations (record { most = most; count = j; last = last; marks = marks; found = old })) (is : m ≡ stage l first rotations (length rotations)) (x : IsExposed l m rotation) where
+  -- it is noted, and it is found what it needs
+  pub noted_more : AreMoved rotation (length rotation) j last last' → AreMarked l rotation (length rotation) j marks marks' → Adds (λ i. IsFoundNeed l rotation (length rotation) last marks i) [] found → j' ≡ j + 1
+      → AreNoted l first (rotations ++ rotation ∷ []) (record { most = most'; count = j'; last = last'; marks = marks'; found = found })
+  noted_more moved marked adds count =
+      let chain = eliminable_more rotation a.eliminable is x in
+      let long : length rotations + 1 ≡ length (rotations ++ rotation ∷ []) = sym (length_push rotations rotation) in
+      let new : rotation_at (rotations ++ rotation ∷ []) (length rotations) ≡ rotation = rotation_at-push_new rotations rotation (length rotations) refl in
+      let inside : length rotations < length (rotations ++ rotation ∷ []) = omega arith in
+      let before = last_longer rotation (omega arith) a.last in
+      let before' = marks_longer rotation (omega arith) a.marks in
+      let newest : length (rotations ++ rotation ∷ []) - 1 ≡ length rotations = omega arith in
+      record {
+        matching = a.matching;
+        eliminable = chain;
+        count = omega (arith, a.count);
+        last = last_pushed rotation a.last (rw a.count at moved);
+        marks = marks_pushed rotation h a.matching chain a.marks (rw a.count at marked);
+        sound = λ i w. rw newest (elim (adds.only i w) [
+          | inl none ↦ absurd (omega (arith, none.1))
+          | inr is_found ↦ found_is_need h a.matching chain inside before before' i (rw new is_found)
+        ]);
+        all = λ i less need. adds.added i (rw new at (need_is_found h a.matching chain inside before before' i less (rw newest at need)));
+      }
 
 -- the place to which a proposer of an exposed rotation moves, and what it means for the next reviewer
 module _ {l : Lists} (h : IsMarket l) {m : Places} (f : IsMatching l m) {rotation : List (ℕ × ℕ)} (x : IsExposed l m rotation) (i : ℕ) (inside : i < length rotation) where

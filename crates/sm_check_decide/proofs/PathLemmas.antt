@@ -1,16 +1,19 @@
 -- The way along successors: it goes on, ends, or goes round a rotation.
-use Rattle.std.proofs.Common.{◌≡◌, ◌≢◌, ℕ, zero, suc, ◌+◌, ◌-◌, ◌<◌, ◌≤◌, inl, inr, arith, sym, ap, ◌∙◌, List, [], ◌∷◌, ◌++◌, length, slice_index}
+use Rattle.std.proofs.Common.{◌≡◌, ◌≢◌, ℕ, zero, suc, ◌+◌, ◌-◌, ◌<◌, ◌≤◌, inl, inr, arith, refl, sym, ap, ◌∙◌, List, [], ◌∷◌, ◌++◌, length, slice_index}
+use Rattle.std.specs.List.{Contains}
 use Rattle.std.proofs.lemmas.List.{get_or_append_left, get_or_push, length_push}
+use Rattle.std.proofs.lemmas.List.Elements.{Contains-append_left, Contains-append_right}
 use Rattle.sm_lists.proofs.Counting.{lt_or_le, eq_or_ne, less_same_more}
 use Rattle.sm_market.specs.Lists.{Lists, entry, IsMarket}
 use Rattle.sm_market.specs.Matching.{Places, standing, IsMatching}
 use Rattle.sm_market.proofs.Core.{Pair, pair_of, one_reviewer}
 use Rattle.sm_market.proofs.Bridge.{sides_of, stand_of, fit_of}
-use Rattle.sm_theory.specs.Rotations.{IsNext, IsNoneBelow}
+use Rattle.sm_theory.specs.Rotations.{IsSuccessor, IsNext, IsNoneBelow}
 use Rattle.sm_theory.proofs.Core.Cycle.{Cycle, Succ, Exposed, target, turn, turn_in, turn_last, turn_more}
 use Rattle.sm_theory.proofs.Bridge.Rotation.{pair_of_held, succ_at}
 use Rattle.sm_check_decide.specs.Exposure.{IsSafe}
-use Rattle.sm_check_decide.specs.ExposureKept.{IsSuccessorPath, AreSafe}
+use Rattle.sm_check_decide.specs.ExposureKept.{IsSuccessorPath, AreSafe, AreClosed, EndsOrLeads}
+use Rattle.sm_check_decide.proofs.AmongLemmas.{contains_at}
 use Rattle.sm_check_decide.proofs.SafeLemmas.{none_round, safe_before, safe_in_round}
 
 -- a way goes on
@@ -120,3 +123,49 @@ module _ {l : Lists} (h : IsMarket l) {m : Places} (f : IsMatching l m) {items :
     round_below {bound} none k after inside =
         let here : spot + (k - spot) ≡ k = omega arith in
         rw here at (none_round h none exposed (k - spot) (omega arith))
+
+-- who leads to a trail leads to a longer one
+pub lead_more : {l : Lists} {m : Places} {items more : List ℕ} {p : ℕ} → ((x : ℕ) → Contains items x → Contains more x) → EndsOrLeads l m items p → EndsOrLeads l m more p
+lead_more kept (inl none) = inl none
+lead_more kept (inr v) = inr (record { next = v.next; is = v.is; on = kept v.next v.on })
+
+-- where a way leads to one on a trail, no successor leads away from the trail
+module _ {l : Lists} {m : Places} {items : List ℕ} {start p q : ℕ} (w : IsSuccessorPath l m items start p q) (more : List ℕ) (kept : (x : ℕ) → Contains items x → Contains more x) (there : Contains more q) where
+  leads : (k : ℕ) → start ≤ k → k < length items → EndsOrLeads l m more (slice_index items k)
+  leads k after less = elim (eq_or_ne (k + 1) (length items)) [
+    | inl e ↦ inr (record { next = q; is = w.last k after e; on = there })
+    | inr ne ↦ inr (record { next = slice_index items (k + 1); is = w.next k after (omega arith); on = kept (slice_index items (k + 1)) (contains_at items (slice_index items (k + 1)) (k + 1) (omega arith) refl) })
+  ]
+
+  -- and it began on the trail
+  pub begin_on : Contains more p
+  begin_on = elim (eq_or_ne start (length items)) [
+    | inl e ↦ rw (w.empty e) at there
+    | inr ne ↦ let less : start < length items = omega (arith, w.start_in) in kept p (contains_at items p start less (w.begins less))
+  ]
+
+module _ {l : Lists} {m : Places} {items : List ℕ} {start p q : ℕ} (w : IsSuccessorPath l m items start p q) (early : (k : ℕ) → k < start → EndsOrLeads l m items (slice_index items k)) where
+  -- the way leads to one that was on the trail
+  pub closed_there : Contains items q → AreClosed l m items
+  closed_there there = record { closed = λ k less. elim (lt_or_le k start) [ inl before ↦ early k before | inr after ↦ leads w items (λ x v. v) there k after less ] }
+
+  -- or to one that has no successor
+  pub closed_pushed : ((i : ℕ) → ¬ IsSuccessor l m q i) → AreClosed l m (items ++ q ∷ [])
+  closed_pushed none = record {
+    closed = λ k less. elim (eq_or_ne k (length items)) [
+      | inl e ↦ let new : slice_index (items ++ q ∷ []) k ≡ q = get_or_push items q 0 k (sym e) in rw new (inl none)
+      | inr ne ↦
+          let inside : k < length items = omega (arith, length_push items q) in
+          let old : slice_index (items ++ q ∷ []) k ≡ slice_index items k = get_or_append_left items (q ∷ []) 0 k inside in
+          rw old (elim (lt_or_le k start) [
+            | inl before ↦ lead_more (Contains-append_left items (q ∷ [])) (early k before)
+            | inr after ↦ leads w (items ++ q ∷ []) (Contains-append_left items (q ∷ [])) (Contains-append_right items (q ∷ []) q (0, omega arith, refl)) k after inside
+          ])
+    ];
+  }
+
+-- those early on a trail do so once one is pushed on it
+pub early_pushed : {l : Lists} {m : Places} {items : List ℕ} {start : ℕ} (q : ℕ) → start ≤ length items → ((k : ℕ) → k < start → EndsOrLeads l m items (slice_index items k)) → (k : ℕ) → k < start → EndsOrLeads l m (items ++ q ∷ []) (slice_index (items ++ q ∷ []) k)
+early_pushed {items = items} q le early k less =
+    let old : slice_index (items ++ q ∷ []) k ≡ slice_index items k = get_or_append_left items (q ∷ []) 0 k (omega arith) in
+    rw old (lead_more (Contains-append_left items (q ∷ [])) (early k less))

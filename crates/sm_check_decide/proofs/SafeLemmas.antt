@@ -8,7 +8,7 @@ use Rattle.sm_theory.specs.Rotations.{IsSuccessor, IsNext, IsNoneBelow, proposer
 use Rattle.sm_theory.proofs.Core.Cycle.{Cycle, Exposed}
 use Rattle.sm_theory.proofs.Bridge.Rotation.{cycle_of, exposed_of, exposed_back, pair_of_held, succ_at, succ_back}
 use Rattle.sm_theory.proofs.Bridge.Chain.{listed, at_listed, exposed_listed}
-use Rattle.sm_theory.proofs.Chains.NoneBelow.{Safe, safe_none, safe_back, safe_round, none_below}
+use Rattle.sm_theory.proofs.Chains.NoneBelow.{Safe, safe_none, safe_back, safe_round}
 use Rattle.sm_check_decide.specs.Exposure.{IsSafe}
 
 -- a cycle as a list
@@ -48,7 +48,3 @@ module _ {l : Lists} (h : IsMarket l) {m : Places} where
     -- who has no successor is safe
     pub safe_at_end : {bound p : ℕ} → ((i : ℕ) → ¬ IsSuccessor l m p i) → IsSafe l m bound p
     safe_at_end {bound} {p} none = list_safe (safe_none (λ r x. none (place_of l.proposers p r) (succ_back h {m = m} p r x)))
-
-    -- where all below the bound are safe, no exposed rotation has a proposer below it
-    pub none_of_safe : {bound : ℕ} → ((p : ℕ) → p < bound → IsSafe l m bound p) → IsNoneBelow l m bound
-    none_of_safe all = record { none = λ other x i less. none_below (λ p k. core_safe (all p k)) (cycle_of other) (exposed_of h f x) i less }

@@ -1,47 +1,58 @@
 //! Which rotations are exposed at a pairing, by the plain definition.
 
-ghost use Rattle.std.specs.Prelude.{◌≡◌, ℕ, ◌<◌, ◌≤◌, ◌↔◌, length, true, false, IsTrue, IfOk, slice_index};
-ghost use Rattle.sm_market.specs.Lists.{IsMarket};
+ghost use Rattle.std.specs.Prelude.{◌≡◌, ℕ, ◌<◌, ◌≤◌, ◌↔◌, ◌⊎◌, length, true, false, IsTrue, IfOk, slice_index, Contains};
+ghost use Rattle.sm_market.specs.Lists.{IsMarket, row};
 ghost use Rattle.sm_market.specs.Matching.{Places};
 ghost use Rattle.sm_market.specs.Pairing.{IsPairingOf};
-ghost use Rattle.sm_theory.specs.Rotations.{IsNoneBelow, IsNothingExposed, IsLowestExposed};
+ghost use Rattle.sm_market.specs.Stable.{IsStable};
+ghost use Rattle.sm_theory.specs.Rotations.{IsExposed, IsNoneBelow, IsNothingExposed, IsLowestExposed, eliminated};
 ghost use Rattle.sm_successors.specs.Search.{IsSearchAt};
-ghost use Rattle.sm_check_decide.specs.Exposure.{IsSafe};
-ghost use Rattle.sm_check_decide.specs.ExposureKept.{AreSafe, AreFinished, StayFinished};
+ghost use Rattle.sm_check_decide.specs.Exposure.{IsSafe, IsPassed, IsSearchOf};
+ghost use Rattle.sm_check_decide.specs.ExposureKept.{AreSafe, AreClosed, AreOn, AreChanged, IsSpanAdded, IsStartAdded, AreStartsAdded};
 
+use crate::needs::place_behind;
 use crate::trail::Trail;
-use sm_market::{Market, Pairing};
+use sm_market::{Market, Pairing, next_in};
 use sm_successors::next_proposer;
 use sm_theory::{Rotation, is_exposed};
 use std::alloc::{AllocError, Global};
 use std::marker::Model;
 
-/// Stands for the place of a successor where none is left.
-const NONE_LEFT: u32 = u32::MAX;
-
-/// What it takes to look for exposed rotations at stable pairings of a market, one after another.
+/// What it takes to look for exposed rotations at stable pairings of a market, each of which comes from the one before by
+/// eliminating a rotation.
 ///
-/// It is made once for all of them. Of each proposer it keeps how far the successor was looked for on its list. Where each
-/// pairing comes from the one before by eliminating a rotation, reviewers never get worse partners, so that the search goes
-/// on from there and passes each entry once. For the same reason a proposer that has no successor never gets one; those at
-/// the front are passed for good.
+/// It is made once for all of them. Of each proposer it keeps how far the successor was looked for on its list: reviewers
+/// never get worse partners, so that the search goes on from there and passes each entry once.
+///
+/// It also keeps who was in no exposed rotation when one was last looked for, and who changed since: whom an elimination moved,
+/// and whom it moved a reviewer past. A rotation that is exposed only now has somebody who changed, so all others who were in
+/// none are passed over: those below a number, and those with a mark.
 #[derive(Debug, Drop)]
 pub struct Search {
     trail: Trail,
     from: Vec<u32>,
-    /// How many proposers at the front are known to have no successor left.
-    finished: u32,
+    /// From whom the search begins: who changed.
+    starts: Trail,
+    passed: Vec<bool>,
+    quiet: u32,
 }
 
 impl Model for Search {
-    ghost use Rattle.std.specs.Prelude.{◌≡◌, ℕ, List, length};
-    ghost use Rattle.sm_check_decide.specs.ExposureKept.{AreFinished};
+    ghost use Rattle.std.specs.Prelude.{◌≡◌, length};
+    ghost use Rattle.sm_check_decide.specs.Exposure.{Searched};
 
-    ghost Value = { List ℕ };
+    ghost Value = { Searched };
 
-    ghost view = { λ s. s.from.items };
+    ghost view = { λ s. record {
+      from = s.from.items;
+      starts = s.starts.items;
+      passed = s.passed.items;
+      quiet = s.quiet;
+    } };
 
-    ghost invariant = { λ s. (s.trail.bound ≡ length s.from.items) × AreFinished s.finished s.from.items };
+    ghost invariant = { λ s. (s.trail.bound ≡ length s.from.items)
+        × (s.starts.bound ≡ length s.from.items)
+        × (length s.passed.items ≡ length s.from.items) };
 }
 
 impl Search {
@@ -53,44 +64,59 @@ impl Search {
     ///
     /// `AllocError` where memory ran out, and only then.
     pub fn of(alloc: Global, market: &Market) -> Result<Search, AllocError>
-        ensures { IfOk result (λ search. (m : Places) → IsSearchAt market.now m search) }
+        ensures { IfOk result (λ search. (m : Places) → IsSearchOf market.now m search) }
     {
         Ok(Search {
             trail: Trail::new(alloc, market.proposers())?,
             from: vec![in alloc; 0; market.proposers() as usize]?,
-            finished: 0,
+            starts: Trail::new(alloc, market.proposers())?,
+            passed: vec![in alloc; false; market.proposers() as usize]?,
+            quiet: 0,
         })
     }
 
     /// Whether no exposed rotation has a proposer whose number is below the bound.
     ///
-    /// The pairing has to be made for a market of these lists; a stable one is meant. From each proposer below the bound, but for
-    /// those at the front that have no successor left, the successors are followed until they end, or come to a proposer that
-    /// was come by before. Where that one was come by on the same way, the way goes round a rotation, and otherwise round none that
-    /// has proposers below the bound. So each proposer is come by at most once, and the time is in proportion to the proposers and
-    /// to the entries that are passed for the first time (Gusfield and Irving 1989, section 2.5).
+    /// The pairing has to be made for a market of these lists; a stable one is meant. From each proposer that changed, and from
+    /// those between the last bound and this one that aren't passed over, the successors are followed until they end, or come
+    /// to a proposer that was come by before. Where that one was come by on the same way, the way goes round a rotation, and
+    /// otherwise round none that has proposers below the bound. So each proposer is come by at most once. The time is in
+    /// proportion to those that are come by, to the entries that are passed for the first time, and to the numbers between the
+    /// two bounds, with one test for each that is passed over (Gusfield and Irving 1989, section 2.5).
     pub fn none_below(&mut self, market: &Market, m: &Pairing, bound: u32) -> bool
         requires bound { bound ≤ length market.now.proposers }
         requires made { IsPairingOf market.now m.now }
-        requires search { IsSearchAt market.now m.now.places self.old }
-        ensures search { IsSearchAt market.now m.now.places self.new }
+        requires search { IsSearchOf market.now m.now.places self.old }
+        ensures search { IsSearchOf market.now m.now.places self.new }
         ensures decided { IsTrue result ↔ IsNoneBelow market.now m.now.places bound }
     {
-        none_below(
+        prove!(bound <= market.proposers());
+        let _places = self.from.len();
+        add_starts(&self.passed, self.quiet, bound, &mut self.starts);
+        self.trail.clear();
+        if !are_safe(
             market,
             m,
             bound,
+            &self.starts,
             &mut self.trail,
             &mut self.from,
-            &mut self.finished,
-        )
+        ) {
+            return false;
+        }
+        let passed = self.passed.as_mut_slice();
+        take_back(&self.trail, passed);
+        pass_over(self.quiet, bound, passed);
+        self.starts.clear();
+        self.quiet = bound;
+        true
     }
 
     /// Whether no rotation is exposed. Takes the time of [`Search::none_below`].
     pub fn is_nothing_exposed(&mut self, market: &Market, m: &Pairing) -> bool
         requires made { IsPairingOf market.now m.now }
-        requires search { IsSearchAt market.now m.now.places self.old }
-        ensures search { IsSearchAt market.now m.now.places self.new }
+        requires search { IsSearchOf market.now m.now.places self.old }
+        ensures search { IsSearchOf market.now m.now.places self.new }
         ensures decided { IsTrue result ↔ IsNothingExposed market.now m.now.places }
         ensures market { IsMarket market.now }
     {
@@ -101,8 +127,8 @@ impl Search {
     /// stand in the rotation. Takes the time of [`is_exposed`] and [`Search::none_below`].
     pub fn is_lowest_exposed(&mut self, market: &Market, m: &Pairing, rotation: &Rotation) -> bool
         requires made { IsPairingOf market.now m.now }
-        requires search { IsSearchAt market.now m.now.places self.old }
-        ensures search { IsSearchAt market.now m.now.places self.new }
+        requires search { IsSearchOf market.now m.now.places self.old }
+        ensures search { IsSearchOf market.now m.now.places self.new }
         ensures decided { IsTrue result
             ↔ IsLowestExposed market.now m.now.places rotation.now.pairs.items }
     {
@@ -111,48 +137,133 @@ impl Search {
         }
         self.none_below(market, m, rotation.pairs[0].0)
     }
-}
 
-/// How many proposers at the front have no successor left, where so many are known to. It marks the others of them.
-fn pass_finished(market: &Market, m: &Pairing, from: &mut [u32], known: u32) -> u32
-    requires search { IsSearchAt market.now m.now.places from.old }
-    requires known { AreFinished known from.old }
-    ensures search { IsSearchAt market.now m.now.places from.new }
-    ensures finished { AreFinished result from.new }
-{
-    let mut count = known;
-    while count < market.proposers() && from[count as usize] >= market.proposer_len(count) {
-        from[count as usize] = NONE_LEFT;
-        count += 1;
+    /// Goes on to the pairing that is left once a rotation is eliminated. It is called before that.
+    ///
+    /// The pairing has to be stable and made for a market of these lists, and the rotation exposed at it. Takes no memory, and
+    /// time in proportion to the rotation and to the places by which it moves its proposers down and its reviewers up.
+    pub fn go_on(&mut self, market: &Market, m: &Pairing, rotation: &Rotation)
+        requires made { IsPairingOf market.now m.now }
+        requires stable { IsStable market.now m.now.places }
+        requires exposed { IsExposed market.now m.now.places rotation.now.pairs.items }
+        requires search { IsSearchOf market.now m.now.places self.old }
+        ensures { IsSearchOf market.now (eliminated market.now m.now.places
+            rotation.now.pairs.items) self.new }
+    {
+        let _places = self.from.len();
+        add_changed(market, m, rotation.pairs.as_slice(), &mut self.starts);
     }
-    count
 }
 
-/// The same, with a trail for the proposers, with how far their successors were looked for, and with how many at the front are
-/// finished.
-fn none_below(
+/// Adds whom a rotation moves, and whom it moves a reviewer past.
+fn add_changed(market: &Market, m: &Pairing, pairs: &[(u32, u32)], changed: &mut Trail)
+    requires made { IsPairingOf market.now m.now }
+    requires exposed { IsExposed market.now m.now.places pairs.now }
+    requires proposers { changed.old.bound ≡ length market.now.proposers }
+    ensures proposers { changed.new.bound ≡ changed.old.bound }
+    ensures kept { (q : ℕ) → Contains changed.old.items q → Contains changed.new.items q }
+    ensures added { AreChanged market.now pairs.now (length pairs.now) changed.new.items }
+    ensures market { IsMarket market.now }
+{
+    prove!(market.proposers() < 1 << 24);
+    for i in 0..pairs.len() {
+        let p = pairs[i].0;
+        let r = pairs[next_in(i, pairs.len())].1;
+        let better = market.cross(p, place_behind(market, m, pairs, i));
+        changed.put(p);
+        add_span(market, r, better, market.reviewer_standing(m, r), changed);
+    }
+}
+
+/// Adds whom a reviewer's list names behind one place and before another.
+fn add_span(market: &Market, r: u32, better: u32, worse: u32, changed: &mut Trail)
+    requires in_range { r < length market.now.reviewers }
+    requires gains { better < worse }
+    requires on_list { worse ≤ length (row market.now.reviewers r) }
+    requires proposers { changed.old.bound ≡ length market.now.proposers }
+    ensures proposers { changed.new.bound ≡ changed.old.bound }
+    ensures kept { (q : ℕ) → Contains changed.old.items q → Contains changed.new.items q }
+    ensures added { IsSpanAdded market.now r better worse changed.new.items }
+{
+    for place in better + 1..worse {
+        changed.put(market.proposer_at(r, place));
+    }
+}
+
+/// Adds the proposers from one number on and below another that aren't passed over.
+fn add_starts(passed: &[bool], first: u32, bound: u32, starts: &mut Trail)
+    requires bound { bound ≤ length passed.now }
+    requires proposers { starts.old.bound ≡ length passed.now }
+    ensures proposers { starts.new.bound ≡ starts.old.bound }
+    ensures kept { (q : ℕ) → Contains starts.old.items q → Contains starts.new.items q }
+    ensures added { AreStartsAdded passed.now first bound starts.new.items }
+{
+    for p in first..bound {
+        add_start(passed, p, starts);
+    }
+}
+
+/// Adds a proposer that isn't passed over.
+fn add_start(passed: &[bool], p: u32, starts: &mut Trail)
+    requires in_range { p < length passed.now }
+    requires proposers { starts.old.bound ≡ length passed.now }
+    ensures proposers { starts.new.bound ≡ starts.old.bound }
+    ensures kept { (q : ℕ) → Contains starts.old.items q → Contains starts.new.items q }
+    ensures added { IsStartAdded passed.now starts.new.items p }
+{
+    if !passed[p as usize] {
+        starts.put(p);
+    }
+}
+
+/// Nobody on a trail is passed over any more.
+fn take_back(trail: &Trail, passed: &mut [bool])
+    requires { trail.now.bound ≡ length passed.old }
+    ensures one_each { length passed.new ≡ length passed.old }
+    ensures left { (p : ℕ) → IsPassed passed.new p → IsPassed passed.old p
+        × (¬ Contains trail.now.items p) }
+{
+    for k in 0..trail.len() {
+        passed[trail.at(k) as usize] = false;
+    }
+}
+
+/// The proposers from one number on and below another are passed over.
+fn pass_over(first: u32, bound: u32, passed: &mut [bool])
+    requires { bound ≤ length passed.old }
+    ensures one_each { length passed.new ≡ length passed.old }
+    ensures more { (p : ℕ) → IsPassed passed.new p → IsPassed passed.old p ⊎ (p < bound) }
+{
+    for p in first..bound {
+        passed[p as usize] = true;
+    }
+}
+
+/// Whether the successors from each of some proposers on go round no rotation that has a proposer below the bound.
+fn are_safe(
     market: &Market,
     m: &Pairing,
     bound: u32,
+    starts: &Trail,
     trail: &mut Trail,
     from: &mut [u32],
-    finished: &mut u32,
 ) -> bool
-    requires bound { bound ≤ length market.now.proposers }
+    requires market { IsMarket market.now }
     requires made { IsPairingOf market.now m.now }
+    requires in_range { starts.now.bound ≡ length market.now.proposers }
     requires proposers { trail.old.bound ≡ length market.now.proposers }
+    requires before { AreSafe market.now m.now.places bound trail.old.items }
+    requires closed { AreClosed market.now m.now.places trail.old.items }
     requires search { IsSearchAt market.now m.now.places from.old }
-    requires finished { AreFinished finished.old from.old }
     ensures proposers { trail.new.bound ≡ trail.old.bound }
     ensures search { IsSearchAt market.now m.now.places from.new }
-    ensures finished { AreFinished finished.new from.new }
-    ensures decided { IsTrue result ↔ IsNoneBelow market.now m.now.places bound }
+    ensures closed { result ≡ true → AreClosed market.now m.now.places trail.new.items }
+    ensures on { result ≡ true → AreOn starts.now.items trail.new.items }
+    ensures safe { result ≡ true → AreSafe market.now m.now.places bound starts.now.items }
+    ensures found { result ≡ false → ¬ IsNoneBelow market.now m.now.places bound }
 {
-    prove!(bound <= market.proposers());
-    *finished = pass_finished(market, m, from, *finished);
-    trail.clear();
-    for p in *finished..bound {
-        if !is_safe(market, m, p, bound, trail, from) {
+    for k in 0..starts.len() {
+        if !is_safe(market, m, starts.at(k), bound, trail, from) {
             return false;
         }
     }
@@ -177,8 +288,11 @@ fn is_safe(
     requires search { IsSearchAt market.now m.now.places from.old }
     ensures proposers { trail.new.bound ≡ trail.old.bound }
     ensures search { IsSearchAt market.now m.now.places from.new }
-    ensures stay { StayFinished from.old from.new }
     ensures all { result ≡ true → AreSafe market.now m.now.places bound trail.new.items }
+    ensures kept { (q : ℕ) → Contains trail.old.items q → Contains trail.new.items q }
+    ensures on { result ≡ true → Contains trail.new.items p }
+    ensures closed { result ≡ true → AreClosed market.now m.now.places trail.old.items
+        → AreClosed market.now m.now.places trail.new.items }
     ensures safe { result ≡ true → IsSafe market.now m.now.places bound p }
     ensures found { result ≡ false → ¬ IsNoneBelow market.now m.now.places bound }
 {

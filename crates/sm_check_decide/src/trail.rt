@@ -1,6 +1,6 @@
 //! Numbers that were come by, in order.
 
-ghost use Rattle.std.specs.Prelude.{◌≡◌, ◌<◌, ◌++◌, ◌∷◌, [], ◌↔◌, IsTrue, IfOk, length, slice_index};
+ghost use Rattle.std.specs.Prelude.{◌≡◌, ℕ, ◌<◌, ◌++◌, ◌∷◌, [], ◌↔◌, IsTrue, IfOk, length, slice_index};
 ghost use Rattle.std.specs.List.{Contains};
 ghost use Rattle.sm_check_decide.specs.Trails.{IsTrail};
 
@@ -105,5 +105,17 @@ impl Trail {
         self.order[self.count as usize] = p;
         self.spots[p as usize] = self.count;
         self.count += 1;
+    }
+
+    /// Comes by a number, unless it was come by before. Takes constant time.
+    pub(crate) fn put(&mut self, p: u32)
+        requires { p < self.old.bound }
+        ensures bound { self.new.bound ≡ self.old.bound }
+        ensures kept { (q : ℕ) → Contains self.old.items q → Contains self.new.items q }
+        ensures has { Contains self.new.items p }
+    {
+        if !self.has(p) {
+            self.push(p);
+        }
     }
 }
