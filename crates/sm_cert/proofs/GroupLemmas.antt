@@ -2,7 +2,7 @@
 use Rattle.std.proofs.Common.{◌≡◌, ℕ, zero, suc, ◌+◌, ◌<◌, ◌≤◌, ◌⊎◌, ◌==◌, ◌&&◌, inl, inr, arith, refl, sym, ap, ◌∙◌, not, Bool, true, false, List, [], ◌∷◌, ◌++◌, length, map, take, get_or, Option, Some, None, if◌then◌else◌, subst, append-nil, length-append, ⊎_elim}
 use Rattle.std.specs.Prelude.{IfSome, filter_map}
 use Rattle.std.specs.List.{cons_option, list_any, list_all, slice_get}
-use Rattle.std.proofs.lemmas.Bool.{false≢true, eqb-true, cases_lt}
+use Rattle.std.proofs.lemmas.Bool.{false≢true, cases_lt}
 use Rattle.std.proofs.lemmas.List.{get_or_append_left}
 use Rattle.std.proofs.lemmas.List.Folds.{list_all_at}
 use Rattle.std.proofs.lemmas.List.Elements.{filter_map-append}
@@ -17,7 +17,7 @@ use Rattle.sm_check_forms.specs.declared.layouts.LayoutPart.{LayoutPart}
 use Rattle.sm_check_forms.specs.declared.layouts.LayoutPart.TheVariants.{One, Many, Blocks}
 use Rattle.sm_check_forms.specs.declared.layouts.Opening.{Opening}
 use Rattle.sm_check_clauses.specs.declared.verdicts.Reason.{Reason}
-use Rattle.sm_check_forms.specs.Keywords.{keyword_number}
+use Rattle.sm_check_forms.proofs.KeywordNumbers.{keyword_number, same_number}
 use Rattle.sm_report.specs.Keywords.{keyword_of}
 use Rattle.sm_check_forms.specs.Layouts.{begins, keyword_at, behind, left_behind, is_empty, is_whole}
 use Rattle.sm_check_forms.specs.Forms.{layouts_of, opening_of}
@@ -84,7 +84,7 @@ module _ (group : ℕ → Bool) where
   Step line (Some left) = ((group (of_line line) ≡ true) × Begins left) ⊎ (IsOutside (of_line line) × AllOut left)
 
   by_word : (P : ℕ → Type 0) (line : Opening) (word : Keyword) → begins line word ≡ true → P (keyword_number word) → P (of_line line)
-  by_word P line word e h = subst P (sym (eqb-true (of_line line) (keyword_number word) e)) h
+  by_word P line word e h = subst P (sym (same_number line.keyword word e)) h
 
   by_place : (P : ℕ → Type 0) (place : ℕ) → P 7 → P 8 → P 9 → P 28 → P (keyword_number (keyword_at place))
   by_place P place a b c d = go (place == 0) (place == 1) (place == 2)

@@ -10,7 +10,7 @@ use Rattle.sm_report.specs.Lines.{LineData}
 use Rattle.sm_report.specs.declared.keywords.Keyword.TheVariants as keyword
 use Rattle.sm_check_forms.specs.declared.layouts.LayoutPart.{LayoutPart}
 use Rattle.sm_check_forms.specs.declared.layouts.LayoutPart.TheVariants.{Many, Blocks}
-use Rattle.sm_check_forms.specs.Keywords.{keyword_number}
+use Rattle.sm_check_forms.proofs.KeywordNumbers.{keyword_number}
 use Rattle.sm_report.specs.Keywords.{keyword_of}
 use Rattle.sm_check_forms.specs.Layouts.{behind, is_whole, is_empty, left_behind}
 use Rattle.sm_check_forms.specs.Forms.{blocks_of, opening_of}

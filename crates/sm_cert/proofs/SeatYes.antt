@@ -10,7 +10,7 @@ use Rattle.sm_agents.specs.Written.{Written}
 use Rattle.sm_market.specs.Lists.{Lists, place_of}
 use Rattle.sm_holding.specs.Held.{partner_in}
 use Rattle.sm_report.specs.Lines.{LineData}
-use Rattle.sm_check_forms.specs.Keywords.{keyword_number}
+use Rattle.sm_check_forms.proofs.KeywordNumbers.{keyword_number}
 use Rattle.sm_report.specs.Keywords.{keyword_of}
 use Rattle.sm_check_clauses.specs.Said.{first_in, last_in, is_up_to_firsts, is_up_to_lasts}
 use Rattle.sm_check_clauses.specs.SeatMatchings.{IsFreeSeat, seat_places_in}

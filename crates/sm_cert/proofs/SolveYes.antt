@@ -21,7 +21,7 @@ use Rattle.sm_check_clauses.specs.declared.verdicts.Reason.TheVariants as reason
 use Rattle.sm_report.specs.declared.keywords.Keyword.TheVariants as keyword
 use Rattle.sm_check_forms.specs.declared.layouts.LayoutPart.{LayoutPart}
 use Rattle.sm_check_forms.specs.declared.layouts.LayoutPart.TheVariants.{Many}
-use Rattle.sm_check_forms.specs.Keywords.{keyword_number}
+use Rattle.sm_check_forms.proofs.KeywordNumbers.{keyword_number}
 use Rattle.sm_report.specs.Keywords.{keyword_of}
 use Rattle.sm_check_forms.specs.Forms.{closing, regret_layout, opening_of}
 use Rattle.sm_check_forms.specs.Layouts.{is_whole, begins}

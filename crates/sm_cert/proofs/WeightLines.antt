@@ -12,7 +12,7 @@ use Rattle.sm_report.specs.declared.keywords.Keyword.{Keyword}
 use Rattle.sm_report.specs.declared.keywords.Keyword.TheVariants as keyword
 use Rattle.sm_check_forms.specs.declared.layouts.LayoutPart.{LayoutPart}
 use Rattle.sm_check_forms.specs.declared.layouts.LayoutPart.TheVariants.{One, Many}
-use Rattle.sm_check_forms.specs.Keywords.{keyword_number}
+use Rattle.sm_check_forms.proofs.KeywordNumbers.{keyword_number}
 use Rattle.sm_report.specs.Keywords.{keyword_of}
 use Rattle.sm_check_forms.specs.Layouts.{begins, behind, left_behind, is_empty, is_whole}
 use Rattle.sm_check_forms.specs.Forms.{closing, opening_of}

@@ -1,3 +1,4 @@
+pub mod KeywordNumbers
 pub mod LayoutLemmas
 pub mod LeftLemmas
 pub mod TakingLemmas
