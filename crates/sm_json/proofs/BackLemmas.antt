@@ -16,8 +16,8 @@ use Rattle.sm_agents.specs.declared.kinds.Kind.TheVariants.{Marriage, Hospitals,
 use Rattle.sm_agents.specs.Nonzero.{is_zero}
 use Rattle.sm_instance_lines.specs.Printed.{second_text, order_lines, pair_text, proposer_line, reviewer_line, weight_line, printed_lines}
 use Rattle.sm_json.specs.Values.{items_in, list_of, every, name_in, names_in, if_capacity, weight_in}
-use Rattle.sm_json.specs.Parts.{JsonWeight, JsonInstance, agent_of, agent_in, agents_in, pair_in, pairs_in, weight_of, second_in, pair_weight_in, weights_in, instance_of, instance_in, kind_in, of_kind, two_in, order_in, by_member, of_parts, has_capacities, has_four, asks_second}
-use Rattle.sm_json.specs.JsonText.{json_lines, json_weight_line}
+use Rattle.sm_json.specs.Parts.{JsonWeight, JsonInstance, agent_of, agent_in, agents_in, pair_in, pairs_in, weight_of, second_in, pair_weight_in, weights_in, instance_of, instance_in, kind_in, of_kind, two_in, order_in, by_member, of_parts, has_capacities}
+use Rattle.sm_json.specs.JsonText.{is_second, json_lines, json_weight_line}
 use Rattle.sm_json.specs.JsonText.{second_text as json_second, order_lines as json_order}
 use Rattle.sm_json.specs.Making.{array_of, agent_json, pair_json, second_json, weight_json, order_json, with_order, unless_empty, two_json, room_json}
 use Rattle.sm_agents.specs.Kinds.{kind_name}
@@ -131,14 +131,10 @@ order_again : (order : Option SaidOrder) → All (λ name. is_name name ≡ true
 order_again None sound = refl
 order_again (Some order) sound = ap (option_map Some) (names_again order.names sound)
 
--- whether the text is of the second format
-abbrev is_second : Said → Bool
-is_second said = asks_second (member_if weight_json said.weights) (order_if said.order)
-
 -- the parts of the value of an instance with two sides
 abbrev parts_of : Kind → Said → Option JsonInstance
 parts_of kind said =
-    of_parts kind (is_second said) (agents_in false (array_of (agent_json false) said.proposers)) (agents_in (has_capacities kind) (array_of (agent_json (has_capacities kind)) said.reviewers))
+    of_parts kind (agents_in false (array_of (agent_json false) said.proposers)) (agents_in (has_capacities kind) (array_of (agent_json (has_capacities kind)) said.reviewers))
     (by_member [] weights_in (member_if weight_json said.weights)) (by_member [] pairs_in (member_if pair_json said.forced)) (by_member [] pairs_in (member_if pair_json said.forbidden))
     (by_member None order_in (order_if said.order))
 
@@ -151,7 +147,7 @@ object_of K P R weights forced forbidden order =
 -- they are found
 members_found : (kind : Kind) (K P R : Data) (weights : List SaidWeight) (forced forbidden : List SaidPair) (order : Option SaidOrder)
     → two_in kind (object_of K P R weights forced forbidden order)
-    ≡ of_parts kind (asks_second (member_if weight_json weights) (order_if order)) (agents_in false P) (agents_in (has_capacities kind) R)
+    ≡ of_parts kind (agents_in false P) (agents_in (has_capacities kind) R)
     (by_member [] weights_in (member_if weight_json weights)) (by_member [] pairs_in (member_if pair_json forced)) (by_member [] pairs_in (member_if pair_json forbidden))
     (by_member None order_in (order_if order))
 members_found kind K P R [] [] [] None = refl
@@ -194,32 +190,26 @@ found_by kind said two =
     instance_found kind said two
     ∙ members_found kind (string (kind_name kind)) (array_of (agent_json false) said.proposers) (array_of (agent_json (has_capacities kind)) said.reviewers) said.weights said.forced said.forbidden said.order
 
--- a weight has four items where its second one isn't 0
-four_if : (x : SaidWeight) → has_four (weight_json x) ≡ not (is_zero x.second)
-four_if x = by_test (is_zero x.second)
+-- a second weight is written where it isn't 0
+seconds_again : (weights : List SaidWeight) → list_any (λ (w : JsonWeight). is_some w.second) (map weighed weights) ≡ list_any (λ (x : SaidWeight). not (is_zero x.second)) weights
+seconds_again [] = refl
+seconds_again (x ∷ xs) =
+    ap (λ t. t || list_any (λ (w : JsonWeight). is_some w.second) (map weighed xs)) (by_test (is_zero x.second)) ∙ ap (λ t. not (is_zero x.second) || t) (seconds_again xs)
   where
-    by_test : (t : Bool) → (length (list_of (items_of (string x.pair.proposer ∷ string x.pair.reviewer ∷ number (of_integer x.weight) ∷ (if t then [] else number (of_integer x.second) ∷ [])))) == 4) ≡ not t
+    by_test : (t : Bool) → is_some (if t then None else Some x.second) ≡ not t
     by_test true = refl
     by_test false = refl
 
-any_four : (weights : List SaidWeight) → list_any has_four (map weight_json weights) ≡ list_any (λ (x : SaidWeight). not (is_zero x.second)) weights
-any_four [] = refl
-any_four (x ∷ xs) = ap (λ t. t || list_any has_four (map weight_json xs)) (four_if x) ∙ ap (λ t. not (is_zero x.second) || t) (any_four xs)
-
-seconded : (weights : List SaidWeight) → asks_second (member_if weight_json weights) None ≡ list_any (λ (x : SaidWeight). not (is_zero x.second)) weights
-seconded [] = refl
-seconded (x ∷ xs) = ap (list_any has_four) (list_again (map weight_json (x ∷ xs))) ∙ any_four (x ∷ xs)
-
 -- the format is the one that is needed
 format_again : (weights : List SaidWeight) (order : Option SaidOrder)
-    → asks_second (member_if weight_json weights) (order_if order) ≡ (is_some order || list_any (λ (x : SaidWeight). not (is_zero x.second)) weights)
-format_again weights None = seconded weights
+    → is_second (map weighed weights) (order_names order) ≡ (is_some order || list_any (λ (x : SaidWeight). not (is_zero x.second)) weights)
+format_again weights None = seconds_again weights
 format_again weights (Some order) = refl
 
 -- the instance that is said
 abbrev pub again : Kind → Said → JsonInstance
 again kind said =
-    instance_of kind (is_second said) (map unlined said.proposers) (map unlined said.reviewers) (map weighed said.weights) said.forced said.forbidden (order_names said.order)
+    instance_of kind (map unlined said.proposers) (map unlined said.reviewers) (map weighed said.weights) said.forced said.forbidden (order_names said.order)
 
 -- all parts are there
 all_there : (kind : Kind) (said : Said) → IsSaid (has_capacities kind) said → parts_of kind said ≡ Some (again kind said)
@@ -239,8 +229,8 @@ two_again kind said two sound = found_by kind said two ∙ all_there kind said s
 
 -- and that of roommates
 pub room_again : (said : Said) → All (IsSaidAgent false) said.proposers
-    → instance_in (room_json said) ≡ Some (instance_of Roommates false (map unlined said.proposers) [] [] [] [] None)
-room_again said sound = ap (option_map (λ persons. instance_of Roommates false persons [] [] [] [] None)) (agents_again false said.proposers sound)
+    → instance_in (room_json said) ≡ Some (instance_of Roommates (map unlined said.proposers) [] [] [] [] None)
+room_again said sound = ap (option_map (λ persons. instance_of Roommates persons [] [] [] [] None)) (agents_again false said.proposers sound)
 
 -- the lines of agents don't tell their lines
 proposers_printed : (agents : List SaidAgent) → map proposer_line (map unlined agents) ≡ map proposer_line agents

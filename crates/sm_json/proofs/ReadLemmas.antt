@@ -1,7 +1,9 @@
 -- The text of an instance, part by part.
-use Rattle.std.proofs.Common.{◌≡◌, ℕ, Bool, true, false, List, [], ◌∷◌, ◌++◌, map, codes, Option, Some, None, option_map, refl, sym, ap, ◌∙◌, append_assoc, append-nil}
-use Rattle.std.specs.List.{flat_map}
+use Rattle.std.proofs.Common.{◌≡◌, ℕ, ℤ, ◌==◌, ◌||◌, Bool, true, false, List, [], ◌∷◌, ◌++◌, length, map, codes, Option, Some, None, is_some, option_map, unwrap_or, refl, sym, ap, ◌∙◌, append_assoc, append-nil}
+use Rattle.std.specs.List.{flat_map, list_any}
+use Rattle.std.specs.Option.{option_and_then}
 use Rattle.std.specs.Str.{IsUtf8, is_utf8}
+use Rattle.std.proofs.lemmas.Option.{same_Some, none-some}
 use Rattle.std.proofs.lemmas.Str.{IsUtf8-from_is_utf8, is_utf8-from_IsUtf8}
 use Rattle.serde_json.specs.Data.{Data}
 use Rattle.serde_json.specs.Find.{get}
@@ -13,12 +15,12 @@ use Rattle.sm_report.specs.Fields.{spaced}
 use Rattle.sm_answer.specs.Writing.{text_of}
 use Rattle.sm_instance_lines.specs.Printed.{proposer_line, reviewer_line, force_line, forbid_line}
 use Rattle.sm_json.specs.declared.agents.Role.TheVariants.{Proposer}
-use Rattle.sm_json.specs.Values.{has_only, names_in, if_so}
-use Rattle.sm_json.specs.Parts.{JsonWeight, agents_in, pairs_in, weights_in, order_in, at, at_or, by_member, instance_of, of_parts, asks_second, two_members, room_members, two_in, room_in, has_capacities}
-use Rattle.sm_json.specs.JsonText.{json_header, json_lines, json_weight_line, order_lines, value_in}
+use Rattle.sm_json.specs.Values.{items_in, has_only, every, names_in, weight_in, if_so}
+use Rattle.sm_json.specs.Parts.{JsonWeight, both_in, second_in, weight_of, weight_among, pair_weight_in, agents_in, pairs_in, weights_in, order_in, at, at_or, by_member, instance_of, of_parts, two_members, room_members, two_in, room_in, has_capacities}
+use Rattle.sm_json.specs.JsonText.{is_second, json_header, json_lines, json_weight_line, order_lines, value_in}
 use Rattle.sm_json.specs.Adding.{joined}
 use Rattle.sm_json.specs.Roles.{with_end, agents_added, pairs_added, weights_added, order_added}
-use Rattle.sm_json.specs.Reading.{instance_added, role_of, items_added, two_added, room_added}
+use Rattle.sm_json.specs.Reading.{instance_added, role_of, has_four, is_seconded, asks_second, items_added, two_added, room_added}
 
 -- lines, and others behind them
 mapped : {A : Type 0} (f : A → List ℕ) (xs : List A) (rest : List (List ℕ)) → text_of (map f xs ++ rest) ≡ flat_map (λ x. with_end (f x)) xs ++ text_of rest
@@ -66,27 +68,88 @@ items_text w f b o =
     ∙ ap (λ t. weight_texts w ++ t) (mapped force_line f _ ∙ ap (λ t. force_texts f ++ t) (mapped forbid_line b _ ∙ ap (λ t. forbid_texts b ++ t) (order_end o)))
     ∙ behind_three (weight_texts w) (force_texts f) (forbid_texts b) (order_text o) ending
 
-whole_text : (kind : Kind) (second : Bool) (p r : List SaidAgent) (w : List JsonWeight) (f b : List SaidPair) (o : Option (List (List ℕ)))
-    → text_of (json_lines (instance_of kind second p r w f b o))
-    ≡ with_end (json_header second kind) ++ (proposer_texts p ++ (reviewer_texts kind r ++ ((weight_texts w ++ (force_texts f ++ (forbid_texts b ++ order_text o))) ++ ending)))
-whole_text kind second p r w f b o =
-    ap (λ t. with_end (json_header second kind) ++ t)
+whole_text : (kind : Kind) (p r : List SaidAgent) (w : List JsonWeight) (f b : List SaidPair) (o : Option (List (List ℕ)))
+    → text_of (json_lines (instance_of kind p r w f b o))
+    ≡ with_end (json_header (is_second w o) kind) ++ (proposer_texts p ++ (reviewer_texts kind r ++ ((weight_texts w ++ (force_texts f ++ (forbid_texts b ++ order_text o))) ++ ending)))
+whole_text kind p r w f b o =
+    ap (λ t. with_end (json_header (is_second w o) kind) ++ t)
     (mapped proposer_line p _ ∙ ap (λ t. proposer_texts p ++ t) (mapped (reviewer_line kind) r _ ∙ ap (λ t. reviewer_texts kind r ++ t) (items_text w f b o)))
 
--- where a part isn't there the text isn't
+-- where a part isn't there the text isn't; else the header is that of the parts
 chain : (kind : Kind) (second : Bool) (P R : Option (List SaidAgent)) (W : Option (List JsonWeight)) (F B : Option (List SaidPair)) (O : Option (Option (List (List ℕ))))
-    → instance_added (of_parts kind second P R W F B O)
+    → ((w : List JsonWeight) (o : Option (List (List ℕ))) → W ≡ Some w → O ≡ Some o → second ≡ is_second w o)
+    → instance_added (of_parts kind P R W F B O)
     ≡ joined (Some (with_end (json_header second kind)))
     (joined (option_map proposer_texts P)
     (joined (option_map (reviewer_texts kind) R)
     (joined (joined (option_map weight_texts W) (joined (option_map force_texts F) (joined (option_map forbid_texts B) (option_map order_text O)))) (Some ending))))
-chain kind second None R W F B O = refl
-chain kind second (Some p) None W F B O = refl
-chain kind second (Some p) (Some r) None F B O = refl
-chain kind second (Some p) (Some r) (Some w) None B O = refl
-chain kind second (Some p) (Some r) (Some w) (Some f) None O = refl
-chain kind second (Some p) (Some r) (Some w) (Some f) (Some b) None = refl
-chain kind second (Some p) (Some r) (Some w) (Some f) (Some b) (Some o) = ap Some (whole_text kind second p r w f b o)
+chain kind second None R W F B O is = refl
+chain kind second (Some p) None W F B O is = refl
+chain kind second (Some p) (Some r) None F B O is = refl
+chain kind second (Some p) (Some r) (Some w) None B O is = refl
+chain kind second (Some p) (Some r) (Some w) (Some f) None O is = refl
+chain kind second (Some p) (Some r) (Some w) (Some f) (Some b) None is = refl
+chain kind second (Some p) (Some r) (Some w) (Some f) (Some b) (Some o) is = rw (is w o refl refl) (ap Some (whole_text kind p r w f b o))
+
+-- an array of two names and weights has four items where it has a second weight
+one_more : (second : Option ℤ) (pair : SaidPair) (first : ℤ) (x : JsonWeight) → option_map (weight_of pair first) (option_map Some second) ≡ Some x → true ≡ is_some x.second
+one_more None pair first x e = absurd (none-some x e)
+one_more (Some z) pair first x e = ap (λ (y : JsonWeight). is_some y.second) (same_Some _ _ e)
+
+four_more : (p r d : Data) (pair : Option SaidPair) (first : Option ℤ) (more : List Data) (x : JsonWeight)
+    → option_and_then (λ pair. option_and_then (λ w. option_map (weight_of pair w) (second_in more)) first) pair ≡ Some x
+    → (length (p ∷ r ∷ d ∷ more) == 4) ≡ is_some x.second
+four_more p r d None first more x e = absurd (none-some x e)
+four_more p r d (Some pair) None more x e = absurd (none-some x e)
+four_more p r d (Some pair) (Some first) [] x e = ap (λ (y : JsonWeight). is_some y.second) (same_Some _ _ e)
+four_more p r d (Some pair) (Some first) (s ∷ []) x e = one_more (weight_in s) pair first x e
+four_more p r d (Some pair) (Some first) (s ∷ t ∷ more) x e = absurd (none-some x e)
+
+four_among : (ds : List Data) (x : JsonWeight) → weight_among ds ≡ Some x → (length ds == 4) ≡ is_some x.second
+four_among [] x e = absurd (none-some x e)
+four_among (p ∷ []) x e = absurd (none-some x e)
+four_among (p ∷ r ∷ []) x e = absurd (none-some x e)
+four_among (p ∷ r ∷ d ∷ more) x e = four_more p r d (both_in p r) (weight_in d) more x e
+
+four_is : (items : Option (List Data)) (x : JsonWeight) → option_and_then weight_among items ≡ Some x → unwrap_or (option_map (λ ds. length ds == 4) items) false ≡ is_some x.second
+four_is None x e = absurd (none-some x e)
+four_is (Some ds) x e = four_among ds x e
+
+-- and so one of an array of weights has
+any_four : (ds : List Data) (ws : List JsonWeight) → every pair_weight_in ds ≡ Some ws → list_any has_four ds ≡ list_any (λ (w : JsonWeight). is_some w.second) ws
+any_four [] ws e = ap (list_any (λ (w : JsonWeight). is_some w.second)) (same_Some _ _ e)
+any_four (d ∷ ds) ws e = by_first (any_four ds) (pair_weight_in d) refl e
+  where
+    by_rest : ((xs : List JsonWeight) → every pair_weight_in ds ≡ Some xs → list_any has_four ds ≡ list_any (λ (w : JsonWeight). is_some w.second) xs)
+        → (x : JsonWeight) (rest : Option (List JsonWeight)) → pair_weight_in d ≡ Some x → every pair_weight_in ds ≡ rest → option_map (λ xs. x ∷ xs) rest ≡ Some ws
+        → list_any has_four (d ∷ ds) ≡ list_any (λ (w : JsonWeight). is_some w.second) ws
+    by_rest again x None h k e = absurd (none-some ws e)
+    by_rest again x (Some xs) h k e =
+        ap (λ t. t || list_any has_four ds) (four_is (items_in d) x h)
+        ∙ ap (λ t. is_some x.second || t) (again xs k)
+        ∙ ap (list_any (λ (w : JsonWeight). is_some w.second)) (same_Some _ _ e)
+
+    by_first : ((xs : List JsonWeight) → every pair_weight_in ds ≡ Some xs → list_any has_four ds ≡ list_any (λ (w : JsonWeight). is_some w.second) xs)
+        → (first : Option JsonWeight) → pair_weight_in d ≡ first → option_and_then (λ x. option_map (λ xs. x ∷ xs) (every pair_weight_in ds)) first ≡ Some ws
+        → list_any has_four (d ∷ ds) ≡ list_any (λ (w : JsonWeight). is_some w.second) ws
+    by_first again None h e = absurd (none-some ws e)
+    by_first again (Some x) h e = by_rest again x (every pair_weight_in ds) h refl e
+
+seconded_is : (items : Option (List Data)) (w : List JsonWeight) → option_and_then (every pair_weight_in) items ≡ Some w
+    → unwrap_or (option_map (list_any has_four) items) false ≡ list_any (λ (x : JsonWeight). is_some x.second) w
+seconded_is None w e = absurd (none-some w e)
+seconded_is (Some ds) w e = any_four ds w e
+
+order_is : (names : Option (List (List ℕ))) (o : Option (List (List ℕ))) → option_map Some names ≡ Some o → true ≡ is_some o
+order_is None o e = absurd (none-some o e)
+order_is (Some names) o e = ap is_some (same_Some _ _ e)
+
+-- what is looked for beforehand is what the parts ask for
+second_is : (weights order : Option Data) (w : List JsonWeight) (o : Option (List (List ℕ))) → by_member [] weights_in weights ≡ Some w → by_member None order_in order ≡ Some o
+    → asks_second weights order ≡ is_second w o
+second_is weights (Some d) w o h e = ap (λ t. t || list_any (λ (x : JsonWeight). is_some x.second) w) (order_is (names_in d) o e)
+second_is None None w o h e = rw (← same_Some _ _ h, ← same_Some _ _ e) refl
+second_is (Some d) None w o h e = rw (← same_Some _ _ e) (seconded_is (items_in d) w h)
 
 -- parts that may be missing
 weights_same : (o : Option Data) → option_map weight_texts (by_member [] weights_in o) ≡ by_member [] weights_added o
@@ -130,14 +193,14 @@ in_place : (h p r r' i i' e : Option (List ℕ)) → r ≡ r' → i ≡ i' → j
 in_place h p r r' i i' e hr hi = rw (hr, hi) refl
 
 parts_text : (kind : Kind) (d p r : Data)
-    → instance_added (of_parts kind (asks_second (get (codes "weights") d) (get (codes "order") d)) (agents_in false p) (agents_in (has_capacities kind) r)
+    → instance_added (of_parts kind (agents_in false p) (agents_in (has_capacities kind) r)
     (by_member [] weights_in (get (codes "weights") d)) (by_member [] pairs_in (get (codes "forced") d)) (by_member [] pairs_in (get (codes "forbidden") d))
     (by_member None order_in (get (codes "order") d)))
     ≡ two_added kind d p r
 parts_text kind d p r =
     chain kind (asks_second (get (codes "weights") d) (get (codes "order") d)) (agents_in false p) (agents_in (has_capacities kind) r)
     (by_member [] weights_in (get (codes "weights") d)) (by_member [] pairs_in (get (codes "forced") d)) (by_member [] pairs_in (get (codes "forbidden") d))
-    (by_member None order_in (get (codes "order") d))
+    (by_member None order_in (get (codes "order") d)) (second_is (get (codes "weights") d) (get (codes "order") d))
     ∙ in_place (Some (with_end (json_header (asks_second (get (codes "weights") d) (get (codes "order") d)) kind))) (agents_added Proposer p) _ _ _ _ (Some ending)
     (reviewers_same kind r) (items_same d)
 
@@ -152,18 +215,18 @@ two_none_only kind d only = rw only refl
 pub two_none_left : (kind : Kind) (d : Data) → has_only two_members d ≡ true → get (codes "proposers") d ≡ None → instance_added (two_in kind d) ≡ None
 two_none_left kind d only none = rw (only, none) refl
 
-none_right : (kind : Kind) (second : Bool) (P : Option (List SaidAgent)) (W : Option (List JsonWeight)) (F B : Option (List SaidPair)) (O : Option (Option (List (List ℕ))))
-    → instance_added (of_parts kind second P None W F B O) ≡ None
-none_right kind second None W F B O = refl
-none_right kind second (Some p) W F B O = refl
+none_right : (kind : Kind) (P : Option (List SaidAgent)) (W : Option (List JsonWeight)) (F B : Option (List SaidPair)) (O : Option (Option (List (List ℕ))))
+    → instance_added (of_parts kind P None W F B O) ≡ None
+none_right kind None W F B O = refl
+none_right kind (Some p) W F B O = refl
 
 pub two_none_right : (kind : Kind) (d : Data) → has_only two_members d ≡ true → get (codes "reviewers") d ≡ None → instance_added (two_in kind d) ≡ None
-two_none_right kind d only none = rw (only, none) (none_right kind (asks_second (get (codes "weights") d) (get (codes "order") d)) (at (codes "proposers") (agents_in false) d)
+two_none_right kind d only none = rw (only, none) (none_right kind (at (codes "proposers") (agents_in false) d)
     (at_or (codes "weights") [] weights_in d) (at_or (codes "forced") [] pairs_in d) (at_or (codes "forbidden") [] pairs_in d) (at_or (codes "order") None order_in d))
 
 -- roommates
 room_parts : (P : Option (List SaidAgent))
-    → instance_added (option_map (λ persons. instance_of Roommates false persons [] [] [] [] None) P)
+    → instance_added (option_map (λ persons. instance_of Roommates persons [] [] [] [] None) P)
     ≡ joined (Some (with_end (json_header false Roommates))) (joined (option_map proposer_texts P) (Some ending))
 room_parts None = refl
 room_parts (Some p) = ap (λ t. Some (with_end (json_header false Roommates) ++ t)) (mapped proposer_line p (codes "end" ∷ []))

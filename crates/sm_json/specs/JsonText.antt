@@ -1,5 +1,6 @@
 -- The instance text that a JSON value stands for. Its lines are those of a printed instance, of the parts of the value in their order.
-use Rattle.std.specs.Prelude.{ℕ, Bool, if◌then◌else◌, List, [], ◌∷◌, ◌++◌, map, codes, Option, Some, None, option_map, option_and_then, ℤ}
+use Rattle.std.specs.Prelude.{ℕ, Bool, ◌||◌, if◌then◌else◌, List, [], ◌∷◌, ◌++◌, map, codes, Option, Some, None, is_some, option_map, option_and_then, ℤ}
+use Rattle.std.specs.List.{list_any}
 use Rattle.std.specs.Fmt.{signed_decimal}
 use Rattle.std.specs.Str.{is_utf8}
 use Rattle.serde_json.specs.Data.{Data}
@@ -10,6 +11,10 @@ use Rattle.sm_answer.specs.Writing.{text_of}
 use Rattle.sm_instance_lines.specs.Printed.{header_line, proposer_line, reviewer_line, pair_text, force_line, forbid_line}
 use Rattle.sm_json.specs.Values.{if_so}
 use Rattle.sm_json.specs.Parts.{JsonWeight, JsonInstance, instance_in}
+
+-- the text is of the second format where there is an order, or a pair with two weights
+abbrev pub is_second : List JsonWeight → Option (List (List ℕ)) → Bool
+is_second weights order = is_some order || list_any (λ (w : JsonWeight). is_some w.second) weights
 
 -- the header, of the first format or of the second
 abbrev pub json_header : (second : Bool) → Kind → List ℕ
@@ -32,7 +37,7 @@ order_lines (Some names) = (codes "order" ++ spaced names) ∷ []
 -- all lines, each without its end
 abbrev pub json_lines : JsonInstance → List (List ℕ)
 json_lines i =
-    json_header i.second i.kind
+    json_header (is_second i.weights i.order) i.kind
     ∷ (map proposer_line i.proposers
     ++ (map (reviewer_line i.kind) i.reviewers
     ++ (map json_weight_line i.weights ++ (map force_line i.forced ++ (map forbid_line i.forbidden ++ (order_lines i.order ++ codes "end" ∷ []))))))

@@ -1,5 +1,6 @@
 -- What is read of bytes, and the texts that are put for it.
-use Rattle.std.specs.Prelude.{◌≡◌, ℕ, false, List, [], codes, Option, Some, None, option_map, Result, Ok, Err}
+use Rattle.std.specs.Prelude.{◌≡◌, ℕ, ◌==◌, ◌||◌, Bool, false, List, [], length, codes, Option, Some, None, is_some, option_map, unwrap_or, Result, Ok, Err}
+use Rattle.std.specs.List.{list_any}
 use Rattle.serde_json.specs.Data.{Data}
 use Rattle.serde_json.specs.Find.{get}
 use Rattle.serde_json.specs.View.{view}
@@ -11,7 +12,8 @@ use Rattle.sm_json.specs.declared.agents.Role.{Role}
 use Rattle.sm_json.specs.declared.agents.Role.TheVariants.{Proposer, Reviewer, Hospital}
 use Rattle.sm_json.specs.declared.faults.JsonFault.{JsonFault}
 use Rattle.sm_json.specs.declared.faults.JsonFault.TheVariants.{BadJson, OutOfMemory}
-use Rattle.sm_json.specs.Parts.{JsonInstance, by_member, asks_second}
+use Rattle.sm_json.specs.Values.{items_in}
+use Rattle.sm_json.specs.Parts.{JsonInstance, by_member}
 use Rattle.sm_json.specs.JsonText.{json_header, json_lines}
 use Rattle.sm_json.specs.Adding.{joined}
 use Rattle.sm_json.specs.Roles.{with_end, agents_added, weights_added, pairs_added, order_added}
@@ -31,6 +33,18 @@ abbrev pub role_of : Kind → Role
 role_of Marriage = Reviewer
 role_of Hospitals = Hospital
 role_of Roommates = Reviewer
+
+-- the array has four items, as the weight of a pair with a second weight has
+abbrev pub has_four : Data → Bool
+has_four d = unwrap_or (option_map (λ ds. length ds == 4) (items_in d)) false
+
+-- one of the items of an array has four
+abbrev pub is_seconded : Data → Bool
+is_seconded d = unwrap_or (option_map (list_any has_four) (items_in d)) false
+
+-- there is an order, or a pair with two weights
+abbrev pub asks_second : (weights order : Option Data) → Bool
+asks_second weights order = is_some order || unwrap_or (option_map is_seconded weights) false
 
 -- the lines of pairs, and that of an order
 abbrev pub items_added : Data → Option (List ℕ)

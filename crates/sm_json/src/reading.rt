@@ -6,8 +6,8 @@ ghost use Rattle.serde_json.specs.Find.{get};
 ghost use Rattle.sm_json.specs.Values.{has_only};
 ghost use Rattle.sm_json.specs.Adding.{Adds, IsText};
 ghost use Rattle.sm_json.specs.JsonText.{json_header, text_in, json_text, value_in};
-ghost use Rattle.sm_json.specs.Parts.{two_in, room_in, asks_second, two_members};
-ghost use Rattle.sm_json.specs.Reading.{IsValue, instance_added, items_added, role_of, two_added, room_added};
+ghost use Rattle.sm_json.specs.Parts.{two_in, room_in, two_members};
+ghost use Rattle.sm_json.specs.Reading.{IsValue, instance_added, items_added, role_of, two_added, room_added, asks_second};
 ghost use Rattle.sm_json.specs.Roles.{with_end};
 
 use crate::agents::{Role, put_agents};

@@ -2,11 +2,10 @@ use Rattle.std.proofs.Common.{codes, Some, ap}
 use Rattle.serde_json.specs.View.{view}
 use Rattle.serde_json.specs.Find.{get}
 use Rattle.sm_json.specs.declared.agents.Role.TheVariants.{Proposer}
-use Rattle.sm_json.specs.Parts.{asks_second}
 use Rattle.sm_json.specs.JsonText.{json_header}
 use Rattle.sm_json.specs.Adding.{joined}
 use Rattle.sm_json.specs.Roles.{with_end, agents_added}
-use Rattle.sm_json.specs.Reading.{items_added, two_added}
+use Rattle.sm_json.specs.Reading.{asks_second, items_added, two_added}
 use Rattle.sm_json.proofs.AddLemmas.{adds_then, adds_same}
 use Rattle.sm_json.proofs.reading.put_sides.Goals as goal
 
