@@ -1,11 +1,11 @@
 -- A survey that is under way, and how it ends.
-use Rattle.std.proofs.Common.{◌≡◌, ℕ, ◌+◌, ◌<◌, ◌≤◌, List, [], ◌∷◌, ◌++◌, false, Some, None, length, refl, sym, ap, ◌∙◌, subst, arith}
+use Rattle.std.proofs.Common.{◌≡◌, ℕ, ◌+◌, ◌<◌, ◌≤◌, List, [], ◌∷◌, ◌++◌, false, Option, Some, None, MatchOption, length, slice_index, refl, sym, ap, ◌∙◌, subst, arith}
 use Rattle.std.proofs.lemmas.List.{map-append, length-append, length-map}
 use Rattle.std.proofs.lemmas.List.Elements.{All-append, All-cons}
 use Rattle.sm_tally.specs.Fold.{Feed, Shown, all_after_feeds}
 use Rattle.sm_tally.proofs.Folds.{nothing_fed, one_more_fed}
 use Rattle.sm_agents.specs.Written.{Written}
-use Rattle.sm_lister.specs.Listers.{Lister, IsNextOf, IsAtEnd, IsSameLister}
+use Rattle.sm_lister.specs.Listers.{Lister, IsNextOf, IsAtEnd, IsSameLister, AreAlikeBelow, IsChangedFrom}
 use Rattle.sm_answer_list.specs.Started.{cursor_in, IsListerOf}
 use Rattle.sm_answer_list.specs.Underway.{AreListedSoFar}
 use Rattle.sm_answer_list.proofs.UnderwayLemmas.{none_so_far, one_more_so_far, stays_so_far, stays_at_end, whole_listing, cut_listing}
@@ -37,6 +37,11 @@ fed_more {w} {s} {t} {k} {before} {after} {then} v h same found at fed =
       fed = fed.fed ∙ ap (λ tallies. all_after_feeds (fed.feed ∷ []) tallies) h.fed ∙ sym (one_more_fed h.feeds fed.feed before);
       count = omega (arith, long, h.count);
     }
+
+-- what is kept of the vector of the cursor is the same below the proposer from which on the next one differs
+pub alike_kept : (cursor : Option (List ℕ)) {from first : ℕ} (ranks v : List ℕ) → first ≡ from → IsChangedFrom from cursor v → MatchOption cursor (Unit {0}) (λ u. ranks ≡ u) → AreAlikeBelow first ranks v
+alike_kept None ranks v is changed last = λ p less. absurd (omega (arith, less, is, changed))
+alike_kept (Some u) ranks v is changed last = λ p less. ap (λ ranks. slice_index ranks p) last ∙ changed p (omega (arith, less, is))
 
 -- a lister at its end stays there
 pub told_all : {w : Written} {s t : Lister} {k : ℕ} {before after : List Shown} (limit : ℕ) → IsUnderway w s k before after → k ≤ limit → IsSameLister s t

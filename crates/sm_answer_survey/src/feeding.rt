@@ -5,6 +5,7 @@ ghost use Rattle.sm_tally.specs.Fold.{shown_as};
 ghost use Rattle.sm_seats.specs.Seating.{seating_of};
 ghost use Rattle.sm_seats.specs.Correspondence.{IsSeating};
 ghost use Rattle.sm_seats.specs.Vectors.{IsAllowedRankVector};
+ghost use Rattle.sm_lister.specs.Listers.{AreAlikeBelow};
 ghost use Rattle.sm_answer_list.specs.Started.{IsListerOf};
 ghost use Rattle.sm_answer_survey.specs.Surveying.{IsFed, AreTold, IsLastVector};
 ghost use Rattle.sm_answer_survey.specs.Surveys.{IsSurvey};
@@ -24,7 +25,8 @@ use std::alloc::{AllocError, Global};
 /// and Irving 1989, section 3.3).
 ///
 /// Takes the time and the memory of [`start_list`], and two numbers for each proposer, and then for each matching the time of a
-/// step of the lister, in which no memory is taken, and time in proportion to the proposers and to the tallies.
+/// step of the lister, in which no memory is taken, and time in proportion to the proposers from [`Lister::changed_from`] on,
+/// to pieces of 64 proposers, and to the tallies.
 ///
 /// # Errors
 ///
@@ -72,27 +74,31 @@ fn feed_listed(
         if !lister.advance() {
             return listed;
         }
-        feed(tallies, regrets, instance, lister.current());
+        let from = lister.changed_from();
+        feed(tallies, regrets, instance, lister.current(), from);
         listed += 1;
     }
     listed
 }
 
-/// Tells each tally of the matching of a rank vector.
+/// Tells each tally of the matching of a rank vector. Proposers before `from` have the ranks of the matching before.
 fn feed(
     tallies: &mut Vec<Box<dyn Tally>>,
     regrets: &mut Regrets,
     instance: &Instance,
     ranks: &[u32],
+    from: u32,
 )
     requires vector { IsAllowedRankVector instance.now ranks.now }
     requires regrets { AreKeptOf instance.now regrets.old }
+    requires alike { AreAlikeBelow from regrets.old.ranks ranks.now }
     ensures fed { IsFed instance.now ranks.now (map (λ t. shown_as (kind t) (shown t))
         tallies.old.items)
         (map (λ t. shown_as (kind t) (shown t)) tallies.new.items) }
     ensures regrets { AreKeptOf instance.now regrets.new }
+    ensures ranks { regrets.new.ranks ≡ ranks.now }
 {
-    let regret = regrets.regret(instance, ranks);
+    let regret = regrets.regret(instance, ranks, from);
     feed_each(tallies, ranks, regrets.counts(), regret);
 }
 

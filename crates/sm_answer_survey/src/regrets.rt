@@ -5,6 +5,7 @@ ghost use Rattle.sm_instance.specs.Matching.{IsMatching};
 ghost use Rattle.sm_instance.specs.Ranks.{rank_vector_of, regret_of};
 ghost use Rattle.sm_seats.specs.Vectors.{IsAllowedRankVector};
 ghost use Rattle.sm_tally.specs.Counts.{AreCountsOf};
+ghost use Rattle.sm_lister.specs.Listers.{AreAlikeBelow};
 ghost use Rattle.sm_answer_survey.specs.Regrets.{piece, IsWorseRank, AreWorseRanks, AreSameIn, AreKeptBut, IsGreatestIn, AreGreatest, AreKeptOf};
 
 use sm_instance::Instance;
@@ -47,11 +48,13 @@ impl Regrets {
     }
 
     /// The regret of the next matching, by its rank vector: the greatest rank that an agent of a matched pair gives its partner,
-    /// 0 where nobody is matched (Gusfield and Irving 1989, section 3.4.1). Takes no memory, and time in proportion to the
-    /// proposers: a comparison for each, and more for those whose pieces differ.
-    pub(crate) fn regret(&mut self, instance: &Instance, ranks: &[u32]) -> u32
+    /// 0 where nobody is matched (Gusfield and Irving 1989, section 3.4.1). Proposers before `from` have the ranks of the last
+    /// matching. Takes no memory, and time in proportion to the pieces, and to the proposers from there on: a comparison for each,
+    /// and more for those whose pieces differ.
+    pub(crate) fn regret(&mut self, instance: &Instance, ranks: &[u32], from: u32) -> u32
         requires vector { IsAllowedRankVector instance.now ranks.now }
         requires kept { AreKeptOf instance.now self.old }
+        requires alike { AreAlikeBelow from self.old.ranks ranks.now }
         ensures regret { (places : List (Option ℕ)) → IsMatching instance.now places → ranks.now
             ≡ rank_vector_of instance.now places
             → result ≡ regret_of instance.now places }
@@ -59,7 +62,14 @@ impl Regrets {
         ensures ranks { self.new.ranks ≡ ranks.now }
     {
         let of_pieces = self.greatest.as_mut_slice();
-        keep_pieces(instance, ranks, &mut self.ranks, &mut self.worse, of_pieces);
+        keep_pieces(
+            instance,
+            ranks,
+            from,
+            &mut self.ranks,
+            &mut self.worse,
+            of_pieces,
+        );
         greatest(of_pieces)
     }
 
@@ -71,10 +81,11 @@ impl Regrets {
     }
 }
 
-/// Puts the ranks of a matching in place of those that are kept, piece by piece.
+/// Puts the ranks of a matching in place of those that are kept, piece by piece. Those of proposers before `from` are the same.
 fn keep_pieces(
     instance: &Instance,
     ranks: &[u32],
+    from: u32,
     kept: &mut CountedRanks,
     worse: &mut [u32],
     greatest: &mut [u32],
@@ -82,17 +93,18 @@ fn keep_pieces(
     requires vector { IsAllowedRankVector instance.now ranks.now }
     requires worse { AreWorseRanks instance.now kept.old worse.old }
     requires greatest { AreGreatest worse.old greatest.old }
+    requires alike { AreAlikeBelow from kept.old ranks.now }
     ensures worse { AreWorseRanks instance.now kept.new worse.new }
     ensures greatest { AreGreatest worse.new greatest.new }
     ensures ranks { kept.new ≡ ranks.now }
 {
     let count = instance.proposer_count();
-    for piece in 0..greatest.len() {
-        let from = piece as u32 * PIECE;
-        let to = (from + PIECE).min(count);
-        if !are_same(kept.ranks(), ranks, from, to) {
-            keep(instance, ranks, from, to, kept, worse);
-            greatest[piece] = greatest_in(worse, from, to);
+    for piece in (from / PIECE) as usize..greatest.len() {
+        let first = piece as u32 * PIECE;
+        let to = (first + PIECE).min(count);
+        if !are_same(kept.ranks(), ranks, first, to) {
+            keep(instance, ranks, first, to, kept, worse);
+            greatest[piece] = greatest_in(worse, first, to);
         }
     }
 }

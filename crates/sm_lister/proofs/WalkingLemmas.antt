@@ -1,6 +1,6 @@
 -- Where a walk stands: marks as lengths of the log.
-use Rattle.std.proofs.Common.{◌≡◌, ◌≢◌, ◌⊎◌, ℕ, ◌+◌, ◌<◌, ◌≤◌, inl, inr, arith, refl, sym, ap, ◌∙◌, subst, List, length, Bool, false, slice_index, slice_index_or, set, take, Option, None, Some, unwrap_or}
-use Rattle.std.proofs.lemmas.List.{ext_get_or, take-take, take_all, length-take, get_or-take, length-set, get_or-set_same, get_or-set_other}
+use Rattle.std.proofs.Common.{◌≡◌, ◌≢◌, ◌⊎◌, ℕ, ◌+◌, ◌<◌, ◌≤◌, inl, inr, arith, sym, ap, ◌∙◌, subst, List, length, Bool, false, slice_index, slice_index_or, set, take, None, Some}
+use Rattle.std.proofs.lemmas.List.{get_or_default, ext_get_or, take-take, take_all, length-take, get_or-take, length-set, get_or-set_same, get_or-set_other}
 use Rattle.sm_lists.proofs.ResultLemmas.{same_bool}
 use Rattle.sm_lists.proofs.Counting.{eq_or_ne, lt_or_le}
 use Rattle.sm_theory.specs.ClosedSets.{IsMember}
@@ -8,11 +8,12 @@ use Rattle.sm_theory.specs.Vectors.{IsOrder}
 use Rattle.sm_board.specs.Board.{IsBoard, Board, level, IsInside, IsClosedIn, Gates, Fits, IsLeast}
 use Rattle.sm_board.specs.Growing.{IsLogOf}
 use Rattle.sm_board.specs.Courses.{Course, Held, IsHeld}
-use Rattle.sm_least.specs.Gates.{AreGatesOf}
 use Rattle.sm_board.specs.Walks.{vector, AgreesUpTo, IsMark, IsNextUp, NoneFrom, IsVectorWalk, HasFirstVector, IsRaised, IsNotRaised}
 use Rattle.sm_board.proofs.HeldLemmas.{one_log, contained_at}
 use Rattle.sm_board.proofs.WalkLemmas.{vector_at, vector_long, up_where_raised, none_where_not_raised, next_up_is_first, mark_before, mark_behind, walk_begins, follow_on, follow_ends}
-use Rattle.sm_lister.specs.Walking.{AreLogMarks, IsMadeFor, IsUnderWay, IsVectorReached, IsMarkedAlong}
+use Rattle.sm_lister.specs.declared.vector_walk.VectorWalk.{VectorWalk}
+use Rattle.sm_lister.specs.Listers.{AreAlikeBelow}
+use Rattle.sm_lister.specs.Walking.{AreLogMarks, IsMadeFor, IsUnderWay, AreLeast, IsHeldUp, IsBroughtTo, IsVectorReached, IsMarkedAlong}
 
 -- a log has one set
 pub one_set : {b : Board} {log : List ℕ} {C D : List Bool} → IsLogOf b log C → IsLogOf b log D → C ≡ D
@@ -113,58 +114,86 @@ marks_fill {t} {g} {h} {v} {w} {old} {marks} i n held are before behind stays ne
 agrees_own : {order w : List ℕ} (b : Board) (C : List Bool) → IsOrder (length b.leaves) order → w ≡ vector b C → AgreesUpTo b order w (length b.leaves) C
 agrees_own {order} {w} b C o is j less = sym (ap (λ u. slice_index u (slice_index order j)) is ∙ vector_at b C (slice_index order j) (o.in_range j (omega (arith, o.long))))
 
+-- the same is made for what is held now
+pub made_held : {t : Course} {g : Gates} {h k : Held} {v marks : List ℕ} → IsMadeFor t g h v marks → IsHeld t.board k → IsMadeFor t g k v marks
+made_held w held = record { order = w.order; held = held; gates = w.gates; level_each = w.level_each; mark_each = w.mark_each }
+
+-- below the least proposer at a position and behind it, what is up there has the levels of the vector
+pub alike_up : {t : Course} {g : Gates} {h : Held} {v marks : List ℕ} {i : ℕ} (least : List ℕ) → IsHeldUp t g h v marks i → AreLeast t.order least → AreAlikeBelow (slice_index least i) v h.levels
+alike_up {t} {g} {h} {v} {marks} {i} least w are p less =
+    let order = w.made.order in
+    let within : i < length t.order = omega (arith, w.within, order.long) in
+    let few : p < length t.board.leaves = omega (arith, less, are i i (omega arith) within, order.in_range i within) in
+    let at = order.each p few in
+    elim (lt_or_le at.0 i) [
+      | inl before ↦ sym (w.made.held.now_is p few ∙ ap (level t.board h.set) (sym at.2) ∙ w.up.up.agrees at.0 before ∙ ap (slice_index v) at.2)
+      | inr behind ↦ absurd (omega (arith, less, are i at.0 behind at.1, at.2))
+    ]
+
+-- the same of a number that was read there
+pub alike_from : {t : Course} {g : Gates} {h : Held} {v marks : List ℕ} {i : ℕ} (least : List ℕ) (from : ℕ) → IsHeldUp t g h v marks i → AreLeast t.order least → length least ≡ length t.board.leaves → from ≡ slice_index_or least i from → AreAlikeBelow from v h.levels
+alike_from {t} {g} {h} {v} {marks} {i} least from w are each is =
+    let few : i < length least = omega (arith, w.within, each) in
+    subst (λ n. AreAlikeBelow n v h.levels) (get_or_default least i 0 from few ∙ sym is) (alike_up least w are)
+
 -- the next set up at a position, with none behind, is reached
-pub reached_up : {t : Course} {g : Gates} {h : Held} {v old w marks : List ℕ} (i : ℕ) → IsBoard t.board → IsOrder (length t.board.leaves) t.order → IsHeld t.board h → AreGatesOf t.board g → AreLogMarks t g v h.log old i → i < length t.board.leaves → length old ≡ length t.board.leaves
-    → IsNextUp t.board g t.order v i h.set → NoneFrom t.board g t.order v (i + 1)
-    → w ≡ h.levels → length marks ≡ length old → ((j : ℕ) → j < i → slice_index marks j ≡ slice_index old j) → ((j : ℕ) → i ≤ j → j < length old → slice_index marks j ≡ length h.log)
-    → IsVectorReached t g (Some v) h w marks
-reached_up {t} {g} {h} {v} {old} {w} {marks} i board order held gates are x long n none e each before behind = record {
-  fits = n.up.fits;
-  first = next_up_is_first t.board g t.order v i h.set board order within n none;
+pub reached_up : {t : Course} {g : Gates} {h : Held} {old new : VectorWalk} (i from : ℕ) → IsBoard t.board → IsHeldUp t g h old.vector.items old.marks.items i → IsBroughtTo t h i from old new → AreAlikeBelow from old.vector.items h.levels → IsVectorReached t g (Some old.vector.items) h new
+reached_up {t} {g} {h} {old} {new} i from board w b alike = record {
+  fits = w.up.up.fits;
+  first = next_up_is_first t.board g t.order v i h.set board order within w.up w.none;
   vector_is = is;
   under_way = record {
-    made = record { order = order; held = held; gates = gates; level_each = ap length is ∙ vector_long t.board h.set; mark_each = each ∙ long };
+    made = record { order = order; held = held; gates = w.made.gates; level_each = ap length is ∙ vector_long t.board h.set; mark_each = b.mark_each ∙ w.made.mark_each };
     within = omega arith;
-    are = marks_fill i (length t.board.leaves) held are before (λ j le y. behind j le (omega (arith, long)))
-        (λ j C y m. subst (λ u. IsMark t.board g t.order u (j + 1) C) (sym is) (mark_before order within n (j + 1) (omega arith) m))
-        (λ j le y. subst (λ u. IsMark t.board g t.order u (j + 1) h.set) (sym is) (mark_behind order within n (j + 1) (omega arith) (omega (arith, order.long))));
-    closed = n.up.fits.closed;
+    are = marks_fill i (length t.board.leaves) held w.are b.kept (λ j le y. b.new j le (omega (arith, w.made.mark_each)))
+        (λ j C y m. subst (λ u. IsMark t.board g t.order u (j + 1) C) (sym is) (mark_before order within w.up (j + 1) (omega arith) m))
+        (λ j le y. subst (λ u. IsMark t.board g t.order u (j + 1) h.set) (sym is) (mark_behind order within w.up (j + 1) (omega arith) (omega (arith, order.long))));
+    closed = w.up.up.fits.closed;
     agrees = agrees_own t.board h.set order is;
     none = λ j D le y. absurd (omega (arith, order.long));
   };
+  changed = λ p less. alike p (omega (arith, less, b.from_is)) ∙ ap (λ u. slice_index u p) (sym b.vector_is);
 }
   where
-    is : w ≡ vector t.board h.set
-    is = e ∙ levels_are held
+    v : List ℕ
+    v = old.vector.items
+
+    order : IsOrder (length t.board.leaves) t.order
+    order = w.made.order
+
+    held : IsHeld t.board h
+    held = w.made.held
+
+    is : new.vector.items ≡ vector t.board h.set
+    is = b.vector_is ∙ levels_are held
 
     within : i < length t.order
-    within = omega (arith, order.long)
+    within = omega (arith, w.within, order.long)
 
 -- so is the least set, where there is no vector
-pub reached_first : {t : Course} {g : Gates} {h : Held} {w marks : List ℕ} (old : List ℕ) → IsBoard t.board → IsOrder (length t.board.leaves) t.order → IsHeld t.board h → AreGatesOf t.board g → length old ≡ length t.board.leaves
-    → IsLeast (Fits t.board g) h.set → w ≡ h.levels → length marks ≡ length old → ((j : ℕ) → 0 ≤ j → j < length old → slice_index marks j ≡ length h.log)
-    → IsVectorReached t g None h w marks
-reached_first {t} {g} {h} {w} {marks} old board order held gates long least e each behind = record {
+pub reached_first : {t : Course} {g : Gates} {h : Held} {old new : VectorWalk} → IsBoard t.board → IsMadeFor t g h old.vector.items old.marks.items → IsLeast (Fits t.board g) h.set → IsBroughtTo t h 0 0 old new → IsVectorReached t g None h new
+reached_first {t} {g} {h} {old} {new} board made least b = record {
   fits = least.one;
   first = begins.1;
   vector_is = is;
   under_way = record {
-    made = record { order = order; held = held; gates = gates; level_each = ap length is ∙ vector_long t.board h.set; mark_each = each ∙ long };
+    made = record { order = made.order; held = made.held; gates = made.gates; level_each = ap length is ∙ vector_long t.board h.set; mark_each = b.mark_each ∙ made.mark_each };
     within = omega arith;
-    are = marks_fill {v = w} {old = marks} 0 (length t.board.leaves) held (record { few = λ j y. absurd (omega arith); rising = λ j k a y. absurd (omega arith); are = λ j C y. absurd (omega arith) }) (λ j y. absurd (omega arith)) (λ j le y. behind j le (omega (arith, long)))
+    are = marks_fill {v = new.vector.items} {old = old.marks.items} 0 (length t.board.leaves) made.held (record { few = λ j y. absurd (omega arith); rising = λ j k a y. absurd (omega arith); are = λ j C y. absurd (omega arith) }) (λ j y. absurd (omega arith)) (λ j le y. b.new j le (omega (arith, made.mark_each)))
         (λ j C y. absurd (omega arith))
-        (λ j le y. subst (λ u. IsMark t.board g t.order u (j + 1) h.set) (sym is) (begins.0.marks (j + 1) (omega (arith, order.long))));
+        (λ j le y. subst (λ u. IsMark t.board g t.order u (j + 1) h.set) (sym is) (begins.0.marks (j + 1) (omega (arith, made.order.long))));
     closed = least.one.closed;
-    agrees = agrees_own t.board h.set order is;
-    none = λ j D le y. absurd (omega (arith, order.long));
+    agrees = agrees_own t.board h.set made.order is;
+    none = λ j D le y. absurd (omega (arith, made.order.long));
   };
+  changed = b.from_is;
 }
   where
-    is : w ≡ vector t.board h.set
-    is = e ∙ levels_are held
+    is : new.vector.items ≡ vector t.board h.set
+    is = b.vector_is ∙ levels_are made.held
 
     begins : IsVectorWalk t.board g t.order (vector t.board h.set) (length t.order) (λ _. h.set) × HasFirstVector t.board g t.order h.set
-    begins = walk_begins t.board g t.order h.set board order least
+    begins = walk_begins t.board g t.order h.set board made.order least
 
 -- the marks below a position stay where the front of the log up to its own stays
 pub marks_below : {t : Course} {g : Gates} {v log then marks : List ℕ} (i : ℕ) → AreLogMarks t g v log marks (i + 1) → take (slice_index marks i) then ≡ take (slice_index marks i) log → slice_index marks i ≤ length then → AreLogMarks t g v then marks i
@@ -173,7 +202,7 @@ marks_below {t} {g} {v} {log} {then} {marks} i w same long = marks_keep i (slice
 -- a position less, where none is above the vector there
 pub under_way_below : {t : Course} {g : Gates} {h k : Held} {v marks : List ℕ} (i : ℕ) → IsUnderWay t g h v marks (i + 1) → IsHeld t.board k → take (slice_index marks i) k.log ≡ take (slice_index marks i) h.log → slice_index marks i ≤ length k.log → NoneFrom t.board g t.order v i → IsMark t.board g t.order v (i + 1) k.set → IsUnderWay t g k v marks i
 under_way_below i w held same long none m = record {
-  made = record { order = w.made.order; held = held; gates = w.made.gates; level_each = w.made.level_each; mark_each = w.made.mark_each };
+  made = made_held w.made held;
   within = let a = w.within in omega arith;
   are = marks_below i w.are same long;
   closed = m.fits.closed;
@@ -184,7 +213,7 @@ under_way_below i w held same long none m = record {
 -- where a vector can't be followed further the walk is under way up to there
 pub under_way_here : {t : Course} {g : Gates} {h k : Held} {v marks : List ℕ} (i p wanted : ℕ) → IsMarkedAlong t g h v marks i → i < length t.board.leaves → IsHeld t.board k → k.log ≡ h.log → p ≡ slice_index t.order i → wanted ≡ slice_index v p → IsNotRaised t.board g t.order h.set p wanted i → IsUnderWay t g k v marks i
 under_way_here {t} {g} {h} {k} {v} {marks} i p wanted w x held same at is r = record {
-  made = record { order = w.made.order; held = held; gates = w.made.gates; level_each = w.made.level_each; mark_each = w.made.mark_each };
+  made = made_held w.made held;
   within = omega arith;
   are = subst (λ log. AreLogMarks t g v log marks i) (sym same) w.are;
   closed = subst (IsClosedIn t.board) set_is w.mark.fits.closed;
@@ -227,15 +256,16 @@ front_long log then e = omega (arith, length-take (length log) then, ap length e
 pub level_held : {b : Board} {order : List ℕ} (k : Held) (i p : ℕ) → IsOrder (length b.leaves) order → IsHeld b k → i < length b.leaves → p ≡ slice_index order i → slice_index k.levels p ≡ level b k.set p
 level_held k i p o held x at = held.now_is p (let a = o.in_range i (omega (arith, o.long)) in omega arith)
 
--- where following a vector ends, the walk is under way
-pub followed : {t : Course} {g : Gates} {k : Held} {v w marks : List ℕ} (r : Option ℕ) (d n : ℕ) → d ≡ unwrap_or r n → n ≡ length t.board.leaves → (r ≡ None → IsVectorReached t g (Some v) k w marks) → ((e : ℕ) → r ≡ Some e → IsUnderWay t g k w marks e) → IsUnderWay t g k w marks d
-followed {t} {g} {k} {v} {w} {marks} None d n is all reached under = subst (IsUnderWay t g k w marks) (sym (is ∙ all)) (reached refl).under_way
-followed {t} {g} {k} {v} {w} {marks} (Some e) d n is all reached under = subst (IsUnderWay t g k w marks) (sym is) (under e refl)
+-- what is taken back and grows again has the same front, and is no shorter
+pub taken_back : {between : List ℕ} (old then : List ℕ) (n : ℕ) → n ≤ length old → between ≡ take n old → take (length between) then ≡ between → (take n then ≡ take n old) × (n ≤ length then)
+taken_back {between} old then n le is same =
+    let long : length between ≡ n = omega (arith, le, ap length is, length-take n old) in
+    (subst (λ k. take k then ≡ take n old) long (same ∙ is), omega (arith, long, front_long between then same))
 
 -- the same vector and marks
 pub under_way_same : {t : Course} {g : Gates} {k : Held} {v w marks then : List ℕ} {d : ℕ} → IsUnderWay t g k v marks d → w ≡ v → then ≡ marks → IsUnderWay t g k w then d
 under_way_same {t} {g} {k} {v} {w} {marks} {then} {d} u ev em = subst (λ x. IsUnderWay t g k x then d) (sym ev) (subst (λ x. IsUnderWay t g k v x d) (sym em) u)
 
--- what was made for a vector and marks was made for equal ones
-pub made_same : {t : Course} {g : Gates} {k : Held} {v w marks then : List ℕ} → IsMadeFor t g k v marks → w ≡ v → then ≡ marks → IsMadeFor t g k w then
-made_same {t} {g} {k} {v} {w} {marks} {then} u ev em = subst (λ x. IsMadeFor t g k x then) (sym ev) (subst (λ x. IsMadeFor t g k v x) (sym em) u)
+-- what is up for a vector and marks is up for equal ones
+pub held_up_same : {t : Course} {g : Gates} {k : Held} {v w marks then : List ℕ} {i : ℕ} → IsHeldUp t g k v marks i → w ≡ v → then ≡ marks → IsHeldUp t g k w then i
+held_up_same {t} {g} {k} {v} {w} {marks} {then} {i} u ev em = subst (λ x. IsHeldUp t g k x then i) (sym ev) (subst (λ x. IsHeldUp t g k v x i) (sym em) u)

@@ -1,6 +1,6 @@
 -- What a `Lister` tells: the poset and levels for which it was made, its conditions and its order, and the vector to which it
 -- came last or behind which it goes on.
-use Rattle.std.specs.Prelude.{◌≡◌, ◌⊎◌, ℕ, ◌+◌, Bool, true, false, Result, Ok, Err, Vec, List, Option, None, Some}
+use Rattle.std.specs.Prelude.{◌≡◌, ◌⊎◌, ℕ, ◌+◌, ◌<◌, Bool, true, false, Result, Ok, Err, Vec, List, Option, None, Some, slice_index}
 use Rattle.std.specs.declared.alloc.AllocError.{AllocError}
 use Rattle.std.specs.declared.alloc.Global.{Global}
 use Rattle.sm_theory.specs.ClosedSets.{matching_of}
@@ -9,7 +9,8 @@ use Rattle.sm_theory.specs.Listings.{IsNextListed, IsNoneBehind}
 use Rattle.sm_poset.specs.Posets.{RotationPoset}
 use Rattle.sm_least.specs.Searches.{Search}
 
--- `here` says that the last step found a vector, and `set` is then the closed set of its matching
+-- `here` says that the last step found a vector, and `set` is then the closed set of its matching; `changed_from` is a proposer
+-- below which the last vector that was found has the levels of the one before it
 pub record Lister : Type 0 where
   pub poset : RotationPoset
   pub levels : List (List ℕ)
@@ -18,6 +19,7 @@ pub record Lister : Type 0 where
   pub order : List ℕ
   pub cursor : Option (List ℕ)
   pub here : Bool
+  pub changed_from : ℕ
   pub set : List Bool
 
 -- the vectors in question are those of the stable matchings that the conditions allow
@@ -31,6 +33,15 @@ IsNextOf s v = IsNextListed (IsBefore s.order) (IsListed s) s.cursor v
 -- no vector in question is behind the cursor
 abbrev pub IsAtEnd : Lister → Type 0
 IsAtEnd s = IsNoneBehind (IsBefore s.order) (IsListed s) s.cursor
+
+-- two vectors have the same levels below a proposer
+abbrev pub AreAlikeBelow : ℕ → (u v : List ℕ) → Type 0
+AreAlikeBelow from u v = (p : ℕ) → p < from → slice_index u p ≡ slice_index v p
+
+-- below a proposer a vector has the levels of the cursor; the proposer is 0 where there is no cursor
+abbrev pub IsChangedFrom : ℕ → Option (List ℕ) → List ℕ → Type 0
+IsChangedFrom from None v = from ≡ 0
+IsChangedFrom from (Some u) v = AreAlikeBelow from u v
 
 -- the level vector of the matching of a set
 abbrev pub vector_of : Lister → List Bool → List ℕ

@@ -6,8 +6,9 @@ use Rattle.sm_board.specs.Board.{Board, Gates, Fits, IsLeast, IsClosedIn, IsFirs
 use Rattle.sm_board.specs.Growing.{IsLogOf}
 use Rattle.sm_board.specs.Courses.{Course, Held, IsHeld}
 use Rattle.sm_least.specs.Gates.{AreGatesOf}
-use Rattle.sm_board.specs.Walks.{vector, AgreesUpTo, IsMark, NoneFrom, HasFirstVector, IsFirstAbove}
+use Rattle.sm_board.specs.Walks.{vector, AgreesUpTo, IsMark, IsNextUp, NoneFrom, HasFirstVector, IsFirstAbove}
 use Rattle.sm_lister.specs.Barred.{HasRoom}
+use Rattle.sm_lister.specs.Listers.{IsChangedFrom}
 use Rattle.sm_lister.specs.declared.vector_walk.VectorWalk.{VectorWalk}
 
 -- the front of the log up to the mark of each of the first d positions is the least set that fits and is no lower than v up to
@@ -53,6 +54,10 @@ abbrev pub SkipsNoFirstChange : (changes : List Bool) → (skip : List ℕ) → 
 SkipsNoFirstChange changes skip = (d : ℕ) → d < length skip → (slice_index skip d ≤ d)
     × ((j : ℕ) → slice_index skip d ≤ j → j < d → slice_index_or changes j false ≡ false)
 
+-- no proposer at a position or behind it is less than the one noted there
+abbrev pub AreLeast : (order least : List ℕ) → Type 0
+AreLeast order least = (i j : ℕ) → i ≤ j → j < length order → slice_index least i ≤ slice_index order j
+
 -- none of the sets that fit is behind a cursor
 abbrev pub NoneLeft : Course → Gates → Option (List ℕ) → Type 0
 NoneLeft t g None = (D : List Bool) → ¬ Fits t.board g D
@@ -63,12 +68,35 @@ abbrev pub IsFirstSetBehind : Course → Gates → Option (List ℕ) → List Bo
 IsFirstSetBehind t g None C = HasFirstVector t.board g t.order C
 IsFirstSetBehind t g (Some v) C = IsFirstAbove t.board g t.order v C
 
+-- the next set up at position i of a vector is held, none is above the vector behind it, and the positions before it have marks
+pub record IsHeldUp (t : Course) (g : Gates) (h : Held) (v marks : List ℕ) (i : ℕ) : Type 0 where
+  pub made : IsMadeFor t g h v marks
+  pub within : i < length t.board.leaves
+  pub are : AreLogMarks t g v h.log marks i
+  pub up : IsNextUp t.board g t.order v i h.set
+  pub none : NoneFrom t.board g t.order v (i + 1)
+
+-- a walk comes to what is held, whose mark is then that of each position from i on, and said to be the same below a proposer
+pub record IsBroughtTo (t : Course) (h : Held) (i from : ℕ) (before after : VectorWalk) : Type 0 where
+  pub vector_is : after.vector.items ≡ h.levels
+  pub mark_each : length after.marks.items ≡ length before.marks.items
+  pub kept : (j : ℕ) → j < i → slice_index after.marks.items j ≡ slice_index before.marks.items j
+  pub new : (j : ℕ) → i ≤ j → j < length before.marks.items → slice_index after.marks.items j ≡ length h.log
+  pub from_is : after.changed_from ≡ from
+  pub everywhere : after.depth ≡ length t.board.leaves
+  pub given : after.given ≡ before.given
+  pub fresh : after.fresh ≡ before.fresh
+  pub skip : after.skip ≡ before.skip
+  pub least : after.least ≡ before.least
+  pub bars : after.bars ≡ before.bars
+
 -- the first set behind a cursor is held, with its vector, and the walk is under way from there
-pub record IsVectorReached (t : Course) (g : Gates) (cursor : Option (List ℕ)) (h : Held) (v marks : List ℕ) : Type 0 where
+pub record IsVectorReached (t : Course) (g : Gates) (cursor : Option (List ℕ)) (h : Held) (w : VectorWalk) : Type 0 where
   pub fits : Fits t.board g h.set
   pub first : IsFirstSetBehind t g cursor h.set
-  pub vector_is : v ≡ vector t.board h.set
-  pub under_way : IsUnderWay t g h v marks (length t.board.leaves)
+  pub vector_is : w.vector.items ≡ vector t.board h.set
+  pub under_way : IsUnderWay t g h w.vector.items w.marks.items (length t.board.leaves)
+  pub changed : IsChangedFrom w.changed_from cursor w.vector.items
 
 -- along a vector the first i positions have marks, and what is held is the mark behind them
 pub record IsMarkedAlong (t : Course) (g : Gates) (h : Held) (v marks : List ℕ) (i : ℕ) : Type 0 where
@@ -85,6 +113,8 @@ pub record IsKeptWalk (t : Course) (g : Gates) (h : Held) (w : VectorWalk) : Typ
   pub made : IsMadeFor t g h w.vector.items w.marks.items
   pub skip_each : length w.skip.items ≡ length t.board.leaves + 1
   pub skips : AreSkips t.board t.order w.skip.items
+  pub least_each : length w.least.items ≡ length t.board.leaves
+  pub least_are : AreLeast t.order w.least.items
   pub room : HasRoom t w.bars
   pub least : w.fresh ≡ true → IsLeast (Fits t.board g) h.set
   pub under_way : w.fresh ≡ false → IsUnderWay t g h w.vector.items w.marks.items w.depth

@@ -3,7 +3,7 @@
 ghost use Rattle.std.specs.Prelude.{◌≡◌, true, false, List, ℕ, Option, Some, length, option_map, IfOk, MatchOption};
 ghost use Rattle.sm_theory.specs.ClosedSets.{IsClosed};
 ghost use Rattle.sm_theory.specs.Vectors.{IsOrder, AreInRange};
-ghost use Rattle.sm_lister.specs.Listers.{IsStarted, IsNextOf, IsAtEnd, IsSameLister, vector_of};
+ghost use Rattle.sm_lister.specs.Listers.{IsStarted, IsNextOf, IsAtEnd, IsSameLister, IsChangedFrom, vector_of};
 
 use crate::vector_walk::{VectorWalk, advance};
 use sm_least::{Least, SearchParts};
@@ -44,6 +44,7 @@ impl Model for Lister {
       order = s.parts.course.order;
       cursor = cursor_of s.walk;
       here = s.here;
+      changed_from = s.walk.changed_from;
       set = s.parts.held.set;
     } };
 
@@ -103,13 +104,15 @@ impl Lister {
     /// started at the first call, or to the first of all. False exactly where there is none, and then always false.
     ///
     /// Takes no memory, and time in proportion to the positions that are tried, to the rotations that enter and leave with their
-    /// needs and proposers, and to the proposers.
+    /// needs and proposers, to the positions from the one that goes up on, and to the proposers from [`Lister::changed_from`] on.
     pub fn advance(&mut self) -> bool
         ensures same { IsSameLister self.old self.new }
         ensures next { result ≡ true → (v : List ℕ) × (self.new.cursor ≡ Some v)
             × IsNextOf self.old v }
         ensures none { result ≡ false → IsAtEnd self.old × (self.new.cursor ≡ self.old.cursor) }
         ensures here { self.new.here ≡ result }
+        ensures changed { result ≡ true → (v : List ℕ) → self.new.cursor ≡ Some v
+            → IsChangedFrom self.new.changed_from self.old.cursor v }
     {
         self.here = advance(
             &self.parts.course,
@@ -127,6 +130,14 @@ impl Lister {
     {
         let _ = self.here;
         &self.walk.vector
+    }
+
+    /// The proposer below which the last call of [`Lister::advance`] that answered true left all levels as they were in the vector
+    /// before, given or reached; 0 where there was none before. Takes constant time and no memory.
+    pub fn changed_from(&self) -> u32
+        ensures { result ≡ self.now.changed_from }
+    {
+        self.walk.changed_from
     }
 
     /// A copy of the level vector to which the last call of [`Lister::advance`] came. It has to have answered true.

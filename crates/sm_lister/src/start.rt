@@ -5,7 +5,7 @@ ghost use Rattle.sm_theory.specs.Vectors.{IsOrder};
 ghost use Rattle.sm_board.specs.Board.{Gates as PlainGates, Fits, IsLeast, IsClosedIn};
 ghost use Rattle.sm_board.specs.Courses.{Held as PlainHeld, IsHeld};
 ghost use Rattle.sm_least.specs.Gates.{AreGatesOf};
-ghost use Rattle.sm_lister.specs.Walking.{cursor_of, AreSkips, IsKeptWalk, AreFirstChanges, SkipsNoFirstChange};
+ghost use Rattle.sm_lister.specs.Walking.{cursor_of, AreSkips, AreLeast, IsKeptWalk, AreFirstChanges, SkipsNoFirstChange};
 
 use crate::bars::Bars;
 use crate::vector_walk::VectorWalk;
@@ -34,6 +34,7 @@ impl VectorWalk {
     {
         let n = course.proposers() as usize;
         let skip = skips(alloc, course)?;
+        let least = least_behind(alloc, course)?;
         let marks = vec![in alloc; 0; n]?;
         let bars = Bars::start(alloc, course)?;
         let given = after.is_some();
@@ -46,6 +47,8 @@ impl VectorWalk {
             given,
             marks,
             skip,
+            least,
+            changed_from: 0,
             bars,
             depth: 0,
             fresh: any,
@@ -105,4 +108,31 @@ fn skips_of(alloc: Global, changes: &[bool]) -> Result<Vec<u32>, AllocError>
         skip.push(last)?;
     }
     Ok(skip)
+}
+
+/// For each position the least of the proposers at it and behind it.
+fn least_behind(alloc: Global, course: &Course) -> Result<Vec<u32>, AllocError>
+    requires { IsOrder (length course.now.board.leaves) course.now.order }
+    ensures least_each { IfOk result (λ least. length least.items ≡ length course.now.board.leaves) }
+    ensures least { IfOk result (λ least. AreLeast course.now.order least.items) }
+{
+    let mut least = vec![in alloc; 0; course.proposers() as usize]?;
+    note_least(course, &mut least);
+    Ok(least)
+}
+
+/// Notes for each position the least of the proposers at it and behind it.
+fn note_least(course: &Course, least: &mut [u32])
+    requires order { IsOrder (length course.now.board.leaves) course.now.order }
+    requires least_each { length least.old ≡ length course.now.board.leaves }
+    ensures least_each { length least.new ≡ length least.old }
+    ensures least { AreLeast course.now.order least.new }
+{
+    let mut i = course.proposers();
+    let mut lowest = i;
+    'positions: while i > 0 {
+        i -= 1;
+        lowest = lowest.min(course.proposer_at(i));
+        least[i as usize] = lowest;
+    }
 }

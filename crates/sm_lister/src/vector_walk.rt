@@ -1,13 +1,9 @@
 //! The walk from vector to vector.
 
-ghost use Rattle.std.specs.Prelude.{◌≡◌, ℕ, ◌+◌, ◌-◌, ◌<◌, ◌≤◌, true, false, List, Bool, Option, None, Some, length, take, slice_index};
-ghost use Rattle.sm_theory.specs.Vectors.{IsOrder};
-ghost use Rattle.sm_board.specs.Board.{Fits, IsLeast, IsInside, level};
-ghost use Rattle.sm_board.specs.Growing.{IsLogOf};
-ghost use Rattle.sm_board.specs.Courses.{IsHeld};
-ghost use Rattle.sm_least.specs.Gates.{AreGatesOf};
-ghost use Rattle.sm_board.specs.Walks.{vector, IsMark, IsNextUp, NoneFrom};
-ghost use Rattle.sm_lister.specs.Walking.{cursor_of, IsMadeFor, IsUnderWay, IsVectorReached, IsMarkedAlong, IsKeptWalk, NoneLeft};
+ghost use Rattle.std.specs.Prelude.{◌≡◌, ℕ, ◌+◌, ◌<◌, ◌≤◌, true, false, Some, length, slice_index};
+ghost use Rattle.sm_board.specs.Board.{Fits, IsLeast, IsInside};
+ghost use Rattle.sm_lister.specs.Listers.{AreAlikeBelow};
+ghost use Rattle.sm_lister.specs.Walking.{cursor_of, IsMadeFor, IsUnderWay, IsHeldUp, IsBroughtTo, IsVectorReached, IsMarkedAlong, IsKeptWalk, NoneLeft};
 ghost use Rattle.sm_lister.specs.Barred.{AreBars};
 
 use crate::bars::Bars;
@@ -25,6 +21,10 @@ pub struct VectorWalk {
     pub(crate) marks: Vec<usize>,
     /// For each depth the one behind the last position before it that is the first whose level some rotation changes.
     pub(crate) skip: Vec<u32>,
+    /// For each position the least of the proposers at it and behind it.
+    pub(crate) least: Vec<u32>,
+    /// The proposer below which the last step left the vector as it was.
+    pub(crate) changed_from: u32,
     /// What the step has learnt of rotations that can't enter.
     pub(crate) bars: Bars,
     /// The position before which a set may still go up.
@@ -43,6 +43,14 @@ enum Met {
     Nothing,
 }
 
+/// What going along a vector comes to.
+enum Followed {
+    /// The first set above the vector, which is above it at this position first.
+    Above(u32),
+    /// None is above it from this position on.
+    Nothing(u32),
+}
+
 /// Goes to the first set behind the vector, or to the first of all where there is none. False where there is none, and then
 /// always. Takes no memory.
 pub(crate) fn advance(
@@ -54,7 +62,7 @@ pub(crate) fn advance(
     requires walking { IsKeptWalk course.now gates.now held.old walk.old }
     ensures walking { IsKeptWalk course.now gates.now held.new walk.new }
     ensures reached { result ≡ true → IsVectorReached course.now gates.now (cursor_of walk.old) held.new
-        walk.new.vector.items walk.new.marks.items }
+        walk.new }
     ensures given { result ≡ true → walk.new.given ≡ true }
     ensures none { result ≡ false → NoneLeft course.now gates.now (cursor_of walk.old) }
     ensures same { result ≡ false → cursor_of walk.new ≡ cursor_of walk.old }
@@ -73,18 +81,26 @@ fn first_step(course: &Course, gates: &Gates, held: &mut Held, walk: &mut Vector
     ensures walking { IsKeptWalk course.now gates.now held.new walk.new }
     ensures over { walk.new.fresh ≡ false }
     ensures reached { result ≡ true → IsVectorReached course.now gates.now (cursor_of walk.old) held.new
-        walk.new.vector.items walk.new.marks.items }
+        walk.new }
     ensures given { walk.new.given ≡ true }
     ensures same { result ≡ false → cursor_of walk.new ≡ cursor_of walk.old }
 {
+    let _board = course.board();
     walk.fresh = false;
     if !walk.given {
-        begin(course, gates, held, walk);
+        walk.given = true;
+        keep(course, held, walk, 0, 0);
         return true;
     }
-    let depth = follow(course, gates, held, &mut walk.vector, &mut walk.marks);
-    walk.depth = depth.unwrap_or(course.proposers());
-    depth.is_none()
+    match follow(course, gates, held, &walk.vector, &mut walk.marks) {
+        Followed::Above(i) => {
+            let from = walk.least[i as usize];
+            keep(course, held, walk, i, from);
+            return true;
+        }
+        Followed::Nothing(depth) => walk.depth = depth,
+    }
+    false
 }
 
 /// A later step: from the depth down, goes to the first set above the vector.
@@ -94,7 +110,7 @@ fn next_step(course: &Course, gates: &Gates, held: &mut Held, walk: &mut VectorW
     ensures walking { IsKeptWalk course.now gates.now held.new walk.new }
     ensures over { walk.new.fresh ≡ false }
     ensures reached { result ≡ true → IsVectorReached course.now gates.now (cursor_of walk.old) held.new
-        walk.new.vector.items walk.new.marks.items }
+        walk.new }
     ensures given { walk.new.given ≡ walk.old.given }
     ensures some { result ≡ true → walk.new.given ≡ true }
     ensures none { result ≡ false → NoneLeft course.now gates.now (cursor_of walk.old) }
@@ -120,7 +136,7 @@ fn try_last(course: &Course, gates: &Gates, held: &mut Held, walk: &mut VectorWa
     ensures over { walk.new.fresh ≡ false }
     ensures bars { result ≡ false → AreBars course.now held.new.set walk.new.bars }
     ensures reached { result ≡ true → IsVectorReached course.now gates.now
-        (Some walk.old.vector.items) held.new walk.new.vector.items walk.new.marks.items }
+        (Some walk.old.vector.items) held.new walk.new }
     ensures given { walk.new.given ≡ walk.old.given }
     ensures lower { result ≡ false → walk.new.depth < walk.old.depth }
     ensures same { result ≡ false → walk.new.vector.items ≡ walk.old.vector.items }
@@ -131,54 +147,42 @@ fn try_last(course: &Course, gates: &Gates, held: &mut Held, walk: &mut VectorWa
         walk.depth = 0;
         return false;
     }
-    walk.depth = below - 1;
-    if walk.bars.is_barred(course, held, walk.depth) {
+    let i = below - 1;
+    walk.depth = i;
+    if walk.bars.is_barred(course, held, i) {
         return false;
     }
-    if !step(
-        course,
-        gates,
-        held,
-        &mut walk.vector,
-        &mut walk.marks,
-        walk.depth,
-    ) {
+    if !go_up(course, gates, held, &walk.vector, &walk.marks, i) {
         return false;
     }
-    walk.depth = course.proposers();
+    let from = walk.least[i as usize];
+    keep(course, held, walk, i, from);
     true
 }
 
-/// The least set is the first one of all.
-fn begin(course: &Course, gates: &Gates, held: &Held, walk: &mut VectorWalk)
-    requires made { IsMadeFor course.now gates.now held.now walk.old.vector.items
-        walk.old.marks.items }
-    requires least { IsLeast (Fits course.now.board gates.now) held.now.set }
-    ensures reached { IsVectorReached course.now gates.now None held.now walk.new.vector.items
-        walk.new.marks.items }
-    ensures given { walk.new.given ≡ true }
-    ensures depth { walk.new.depth ≡ length course.now.board.leaves }
-    ensures fresh { walk.new.fresh ≡ walk.old.fresh }
-    ensures skip { walk.new.skip ≡ walk.old.skip }
-    ensures bars { walk.new.bars ≡ walk.old.bars }
+/// What is held becomes where the walk stands, with its mark for each position from one on. Below the proposer `from` the vector
+/// has the levels that are held. Takes time in proportion to the proposers from there on, and to those positions.
+fn keep(course: &Course, held: &Held, walk: &mut VectorWalk, i: u32, from: u32)
+    requires level_each { length walk.old.vector.items ≡ length held.now.levels }
+    requires position { i ≤ length walk.old.marks.items }
+    requires alike { AreAlikeBelow from walk.old.vector.items held.now.levels }
+    ensures { IsBroughtTo course.now held.now i from walk.old walk.new }
 {
-    keep(held, &mut walk.vector, &mut walk.marks, 0);
-    walk.given = true;
+    copy_from(&mut walk.vector, held.levels(), from as usize);
+    fill_from(&mut walk.marks, i as usize, held.count());
+    walk.changed_from = from;
     walk.depth = course.proposers();
 }
 
-/// What is held becomes where the walk stands, and the positions behind a given one ask for nothing more.
-fn keep(held: &Held, vector: &mut [u32], marks: &mut [usize], i: u32)
-    requires level_each { length vector.old ≡ length held.now.levels }
-    requires position { i ≤ length marks.old }
-    ensures vector { vector.new ≡ held.now.levels }
-    ensures mark_each { length marks.new ≡ length marks.old }
-    ensures before { (j : ℕ) → j < i → slice_index marks.new j ≡ slice_index marks.old j }
-    ensures behind { (j : ℕ) → i ≤ j → j < length marks.old → slice_index marks.new j
-        ≡ length held.now.log }
+/// Makes a list the same as another one that is alike before a place.
+fn copy_from(numbers: &mut [u32], others: &[u32], from: usize)
+    requires long { length numbers.old ≡ length others.now }
+    requires alike { AreAlikeBelow from numbers.old others.now }
+    ensures { numbers.new ≡ others.now }
 {
-    vector.copy_from_slice(held.levels());
-    fill_from(marks, i as usize, held.count());
+    for p in from..numbers.len() {
+        numbers[p] = others[p];
+    }
 }
 
 /// Writes a number to all places from one on.
@@ -200,85 +204,45 @@ fn go_up(
     gates: &Gates,
     held: &mut Held,
     vector: &[u32],
-    mark: usize,
+    marks: &[usize],
     i: u32,
 ) -> bool
-    requires order { IsOrder (length course.now.board.leaves) course.now.order }
-    requires held { IsHeld course.now.board held.old }
-    requires gates { AreGatesOf course.now.board gates.now }
-    requires level_each { length vector.now ≡ length course.now.board.leaves }
-    requires position { i < length course.now.board.leaves }
-    requires few { mark ≤ length held.old.log }
-    requires mark { (C : List Bool) → IsLogOf course.now.board (take mark held.old.log) C
-        → IsMark course.now.board gates.now course.now.order vector.now (i + 1) C }
-    requires none { NoneFrom course.now.board gates.now course.now.order vector.now (i + 1) }
-    ensures held { IsHeld course.now.board held.new }
-    ensures front { take mark held.new.log ≡ take mark held.old.log }
-    ensures longer { mark ≤ length held.new.log }
-    ensures up { result ≡ true → IsNextUp course.now.board gates.now course.now.order vector.now i
-        held.new.set }
-    ensures nothing { result ≡ false → NoneFrom course.now.board gates.now course.now.order
-        vector.now i }
-    ensures stands { result ≡ false → IsMark course.now.board gates.now course.now.order vector.now
-        (i + 1) held.new.set }
+    requires under_way { IsUnderWay course.now gates.now held.old vector.now marks.now (i + 1) }
+    ensures up { result ≡ true → IsHeldUp course.now gates.now held.new vector.now marks.now i }
+    ensures under_way { result ≡ false → IsUnderWay course.now gates.now held.new vector.now
+        marks.now i }
     ensures fewer { result ≡ false → IsInside held.new.set held.old.set }
 {
     let _board = course.board();
     let p = course.proposer_at(i);
-    course.back(held, mark);
+    course.back(held, marks[i as usize]);
     raise(course, gates, held, p, u64::from(vector[p as usize]) + 1, i)
 }
 
-/// Tries a position: where a set can go up there, the walk goes on from it.
-fn step(
-    course: &Course,
-    gates: &Gates,
-    held: &mut Held,
-    vector: &mut [u32],
-    marks: &mut [usize],
-    i: u32,
-) -> bool
-    requires under_way { IsUnderWay course.now gates.now held.old vector.old marks.old (i + 1) }
-    ensures reached { result ≡ true → IsVectorReached course.now gates.now (Some vector.old) held.new
-        vector.new marks.new }
-    ensures under_way { result ≡ false → IsUnderWay course.now gates.now held.new vector.new
-        marks.new i }
-    ensures fewer { result ≡ false → IsInside held.new.set held.old.set }
-    ensures same { result ≡ false → vector.new ≡ vector.old }
-{
-    let _board = course.board();
-    if !go_up(course, gates, held, vector, marks[i as usize], i) {
-        return false;
-    }
-    keep(held, vector, marks, i);
-    true
-}
-
-/// Goes along a vector as far as sets agree with it. `None` where it meets the first one above it, else the depth from which on
-/// none is above it.
+/// Goes along a vector as far as sets agree with it.
 fn follow(
     course: &Course,
     gates: &Gates,
     held: &mut Held,
-    vector: &mut [u32],
+    vector: &[u32],
     marks: &mut [usize],
-) -> Option<u32>
-    requires made { IsMadeFor course.now gates.now held.old vector.old marks.old }
+) -> Followed
+    requires made { IsMadeFor course.now gates.now held.old vector.now marks.old }
     requires least { IsLeast (Fits course.now.board gates.now) held.old.set }
-    ensures reached { result ≡ None → IsVectorReached course.now gates.now (Some vector.old) held.new
-        vector.new marks.new }
-    ensures under_way { (d : ℕ) → result ≡ Some d
-        → IsUnderWay course.now gates.now held.new vector.new marks.new d }
-    ensures same { (d : ℕ) → result ≡ Some d → vector.new ≡ vector.old }
+    ensures mark_each { length marks.new ≡ length marks.old }
+    ensures up { (i : ℕ) → result ≡ Followed.Above i
+        → IsHeldUp course.now gates.now held.new vector.now marks.new i }
+    ensures under_way { (d : ℕ) → result ≡ Followed.Nothing d
+        → IsUnderWay course.now gates.now held.new vector.now marks.new d }
 {
     for i in 0..course.proposers() {
         match meet(course, gates, held, vector, marks, i) {
             Met::Level => {}
-            Met::Above => return None,
-            Met::Nothing => return Some(i),
+            Met::Above => return Followed::Above(i),
+            Met::Nothing => return Followed::Nothing(i),
         }
     }
-    Some(course.proposers())
+    Followed::Nothing(course.proposers())
 }
 
 /// Goes along a vector by one position.
@@ -286,19 +250,18 @@ fn meet(
     course: &Course,
     gates: &Gates,
     held: &mut Held,
-    vector: &mut [u32],
+    vector: &[u32],
     marks: &mut [usize],
     i: u32,
 ) -> Met
-    requires along { IsMarkedAlong course.now gates.now held.old vector.old marks.old i }
+    requires along { IsMarkedAlong course.now gates.now held.old vector.now marks.old i }
     requires position { i < length course.now.board.leaves }
-    ensures along { result ≡ Met.Level → IsMarkedAlong course.now gates.now held.new vector.new marks.new
-        (i + 1) }
-    ensures reached { result ≡ Met.Above → IsVectorReached course.now gates.now (Some vector.old) held.new
-        vector.new marks.new }
-    ensures under_way { result ≡ Met.Nothing → IsUnderWay course.now gates.now held.new vector.new
+    ensures mark_each { length marks.new ≡ length marks.old }
+    ensures along { result ≡ Met.Level → IsMarkedAlong course.now gates.now held.new vector.now
+        marks.new (i + 1) }
+    ensures up { result ≡ Met.Above → IsHeldUp course.now gates.now held.new vector.now marks.new i }
+    ensures under_way { result ≡ Met.Nothing → IsUnderWay course.now gates.now held.new vector.now
         marks.new i }
-    ensures same { ¬ (result ≡ Met.Above) → vector.new ≡ vector.old }
 {
     let _board = course.board();
     let p = course.proposer_at(i);
@@ -307,7 +270,6 @@ fn meet(
         return Met::Nothing;
     }
     if wanted < held.level(p) {
-        keep(held, vector, marks, i);
         return Met::Above;
     }
     marks[i as usize] = held.count();

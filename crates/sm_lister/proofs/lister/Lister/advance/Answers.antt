@@ -1,7 +1,7 @@
 use Rattle.std.proofs.Common.{◌∙◌, ap, subst}
 use Rattle.sm_board.specs.Walks.{vector}
-use Rattle.sm_lister.specs.Listers.{Lister, IsNextOf, IsAtEnd}
-use Rattle.sm_lister.proofs.NextLemmas.{next_found, none_found, cursor_is}
+use Rattle.sm_lister.specs.Listers.{Lister, IsNextOf, IsAtEnd, IsChangedFrom}
+use Rattle.sm_lister.proofs.NextLemmas.{next_found, none_found, cursor_is, vector_at}
 use Rattle.sm_lister.specs.Walking.{cursor_of}
 use Rattle.sm_lister.proofs.lister.Lister.advance.Goals as goal
 
@@ -16,3 +16,9 @@ returns-clause-none c = λ no. (
   subst (λ (s : Lister). IsAtEnd s) c.self.view_is (none_found c.self.invariant.going (cursor_of c.self.inside.walk) (c.advance-self-inside.ensures.none no)),
   c.advance-self-inside.ensures.same no ∙ ap (λ (s : Lister). s.cursor) c.self.view_is,
 )
+
+pub returns-clause-changed : goal.returns-clause-changed
+returns-clause-changed c = λ yes v at.
+    let walk = c.advance-self-inside.new.walk in
+    subst (λ (s : Lister). IsChangedFrom walk.changed_from s.cursor v) c.self.view_is
+    (subst (IsChangedFrom walk.changed_from (cursor_of c.self.inside.walk)) (vector_at walk (c.advance-self-inside.ensures.given yes) at) (c.advance-self-inside.ensures.reached yes).changed)
