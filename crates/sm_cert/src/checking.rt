@@ -57,51 +57,16 @@ pub fn check(
         first_line f) }
 {
     match input {
-        Input::Two(instance) => check_two(alloc, input, instance, answer, first_line),
-        Input::Room(persons) => check_room(alloc, input, persons, answer, first_line),
+        Input::Two(instance) => {
+            let counts = seat_counts(alloc, instance)?;
+            let lines = read_lines(alloc, input, &counts.firsts, answer, first_line)?;
+            Ok(judge_two(alloc, instance, &counts, &lines, first_line)?)
+        }
+        Input::Room(persons) => {
+            let lines = read_lines(alloc, input, &[], answer, first_line)?;
+            Ok(judge_room(alloc, persons, &lines, first_line)?)
+        }
     }
-}
-
-/// The same over an instance with two sides.
-fn check_two(
-    alloc: Global,
-    input: &Input,
-    instance: &Instance,
-    answer: &[u8],
-    first_line: u32,
-) -> Result<Verdict, CertFault>
-    requires two { input.now ≡ Two instance.now }
-    requires short { length answer.now ≤ most_bytes }
-    requires first_line { first_line ≤ most_bytes + 1 }
-    ensures judged { IfOk result (λ v. IsJudged input.now (map content (lines answer.now))
-        first_line v) }
-    ensures few { OnOk result (HasFewSeats input.now) }
-    ensures fault { IfErr result (λ f. IsCertFault input.now (map content (lines answer.now))
-        first_line f) }
-{
-    let counts = seat_counts(alloc, instance)?;
-    let lines = read_lines(alloc, input, &counts.firsts, answer, first_line)?;
-    Ok(judge_two(alloc, instance, &counts, &lines, first_line)?)
-}
-
-/// The same over roommates, who have no seats.
-fn check_room(
-    alloc: Global,
-    input: &Input,
-    persons: &Persons,
-    answer: &[u8],
-    first_line: u32,
-) -> Result<Verdict, CertFault>
-    requires room { input.now ≡ Room persons.now }
-    requires short { length answer.now ≤ most_bytes }
-    requires first_line { first_line ≤ most_bytes + 1 }
-    ensures judged { IfOk result (λ v. IsJudged input.now (map content (lines answer.now))
-        first_line v) }
-    ensures fault { IfErr result (λ f. IsCertFault input.now (map content (lines answer.now))
-        first_line f) }
-{
-    let lines = read_lines(alloc, input, &[], answer, first_line)?;
-    Ok(judge_room(alloc, persons, &lines, first_line)?)
 }
 
 /// The lines of an answer, of which the first has this number.

@@ -1,7 +1,6 @@
 //! The two matchings behind an instance.
 
 ghost use Rattle.std.specs.Prelude.{◌≡◌, ◌<◌, ◌+◌, ◌^◌, length, drop, IfOk, IfErr};
-ghost use Rattle.sm_instance.specs.declared.inputs.Input.TheVariants.{Two};
 ghost use Rattle.sm_text.specs.Lines.{lines, texts_from};
 ghost use Rattle.sm_report.specs.Sound.{ArePair};
 ghost use Rattle.sm_answer_given.specs.Given.{AreStableGiven};
@@ -9,37 +8,34 @@ ghost use Rattle.sm_top.specs.Outcome.{IsGivenRefusal, which_name, flaw_name, un
 ghost use Rattle.sm_serve.specs.Stops.{StopsBy};
 ghost use Rattle.sm_serve.specs.Texts.{refusal_fields};
 
+use crate::counted::Counted;
 use sm_answer_given::{Flaw, Given, GivenFault, Unstable, Which, find_given};
-use sm_instance::{Input, Instance};
-use sm_reader::Read;
+use sm_instance::Input;
 use sm_serve::Stop;
 use sm_text::RefusalKind;
 use std::alloc::{AllocError, Global};
 
 /// The two stable matchings behind the `end` of an instance with two sides.
-pub(crate) fn given_behind(
-    alloc: Global,
-    read: &Read,
-    instance: &Instance,
-    bytes: &[u8],
-) -> Result<Given, Stop>
-    requires two { read.now.input ≡ Two instance.now }
-    requires few { read.now.rest_line + length (lines (drop read.now.rest bytes.now)) < 2 ^ 32 }
-    ensures given { IfOk result (AreStableGiven instance.now (texts_from bytes.now read.now.rest)) }
+pub(crate) fn given_behind(alloc: Global, given: &Counted<'_>, bytes: &[u8]) -> Result<Given, Stop>
+    requires { given.now.read.now.rest_line
+        + length (lines (drop given.now.read.now.rest bytes.now)) < 2 ^ 32 }
+    ensures given { IfOk result (AreStableGiven given.now.instance.now (texts_from bytes.now
+        given.now.read.now.rest)) }
     ensures stop { IfErr result (λ stop. StopsBy (λ _. ⊥)
-        (IsGivenRefusal instance.now (texts_from bytes.now read.now.rest) read.now.rest_line) ⊥
-        stop) }
+        (IsGivenRefusal given.now.instance.now (texts_from bytes.now given.now.read.now.rest)
+        given.now.read.now.rest_line) ⊥ stop) }
 {
+    let read = given.read;
     let _kind = read.input.kind();
     match find_given(
         alloc,
         &read.input,
-        instance,
+        given.instance,
         bytes,
         read.rest,
         read.rest_line,
     ) {
-        Ok(given) => Ok(given),
+        Ok(two) => Ok(two),
         Err(GivenFault::BadAnswer(line)) => Err(Stop::Refused(RefusalKind::BadAnswer, line)),
         Err(GivenFault::NotStable(unstable)) => {
             let fields = unstable_fields(alloc, &read.input, unstable)?;

@@ -1,8 +1,7 @@
 //! Doing `meet` and `join`.
 
-ghost use Rattle.std.specs.Prelude.{◌≡◌, ◌<◌, ◌+◌, ◌^◌, length, drop, IfErr};
+ghost use Rattle.std.specs.Prelude.{◌<◌, ◌+◌, ◌^◌, length, drop, IfErr};
 ghost use Rattle.sm_answer.specs.Printing.{IsShown};
-ghost use Rattle.sm_instance.specs.declared.inputs.Input.TheVariants.{Two};
 ghost use Rattle.sm_text.specs.Lines.{lines, texts_from};
 ghost use Rattle.sm_answer_given.specs.Chosen.{IsChosenAnswer};
 ghost use Rattle.sm_top.specs.Outcome.{IsGivenRefusal};
@@ -10,7 +9,7 @@ ghost use Rattle.sm_serve.specs.Stops.{StopsBy};
 ghost use Rattle.sm_serve.specs.Wrote.{Leaves, With};
 
 use crate::behind::given_behind;
-use crate::performing::Counted;
+use crate::counted::Counted;
 use sm_answer_given::chosen_lines;
 use sm_holding::choose_places;
 use sm_io::Sink;
@@ -26,8 +25,7 @@ pub(crate) fn choose<K: Sink>(
     choice: Choice,
     sink: &mut K,
 ) -> Result<Status, Stop>
-    requires two { given.now.read.now.input ≡ Two given.now.instance.now }
-    requires few { given.now.read.now.rest_line
+    requires { given.now.read.now.rest_line
         + length (lines (drop given.now.read.now.rest bytes.now)) < 2 ^ 32 }
     ensures leaves { Leaves given.now.form
         (With Status.Done (IsShown given.now.read.now.input (IsChosenAnswer choice (texts_from
@@ -38,7 +36,7 @@ pub(crate) fn choose<K: Sink>(
         given.now.read.now.rest_line) ⊥ stop) }
 {
     let instance = given.instance;
-    let two = given_behind(alloc, given.read, instance, bytes)?;
+    let two = given_behind(alloc, given, bytes)?;
     let chosen = choose_places(alloc, instance, choice, &two.left, &two.right)?;
     let lines = chosen_lines(&given.read.input, instance, choice, &two, &chosen);
     Ok(write(alloc, sink, given.form, Status::Done, lines))

@@ -8,6 +8,7 @@
 mod behind;
 mod checking;
 mod choosing;
+mod counted;
 mod exporting;
 mod giving;
 mod making;

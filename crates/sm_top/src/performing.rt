@@ -13,7 +13,6 @@ ghost use Rattle.sm_words.specs.Jobs.{job_of, IsFormFor, IsInBounds};
 ghost use Rattle.sm_words.specs.Takes.{reads_input, takes_text, IsTextFor, judges_answer, takes_rooms_alone};
 ghost use Rattle.sm_top.specs.Accepting.{judged, accepted};
 ghost use Rattle.sm_serve.specs.Refusals.{too_many_in, IsTooMany};
-ghost use Rattle.sm_top.specs.Counted.{IsCounted};
 ghost use Rattle.sm_answer_solve.specs.Solution.{IsSolution};
 ghost use Rattle.sm_answer_roommates.specs.RestAnswer.{IsRest};
 ghost use Rattle.sm_answer_roommates.specs.RoomListAnswer.{IsRoomListAnswer};
@@ -32,6 +31,7 @@ ghost use Rattle.sm_serve.specs.Wrote.{Leaves, With};
 
 use crate::behind::given_behind;
 use crate::choosing::choose;
+use crate::counted::Counted;
 use crate::exporting::export;
 use sm_answer_list::{list_lines, start_list};
 use sm_answer_median::{MedianFault, find_median, median_lines};
@@ -50,7 +50,7 @@ use sm_instance::{Input, Instance, Measure, Persons, Side};
 use sm_io::Sink;
 use sm_reader::Read;
 use sm_report::Head;
-use sm_seats::{SeatCounts, Seats};
+use sm_seats::Seats;
 use sm_serve::{Status, Stop, counts_of, write};
 use sm_tally::Tally;
 use sm_text::RefusalKind;
@@ -62,15 +62,6 @@ use std::alloc::{AllocError, Global};
 #[derive(Clone, Copy)]
 pub(crate) struct Reading<'a> {
     pub(crate) read: &'a Read,
-    pub(crate) form: Form,
-}
-
-/// An instance with two sides that was read, what is counted of its seats, and the form in which its answer is written.
-#[derive(Drop)]
-pub(crate) struct Counted<'a> {
-    pub(crate) read: &'a Read,
-    pub(crate) instance: &'a Instance,
-    pub(crate) counts: SeatCounts,
     pub(crate) form: Form,
 }
 
@@ -140,8 +131,6 @@ fn with_counts<'a>(
     ensures instance { IsInstance instance.now }
     ensures read { IfOk result (λ given. given.read.now ≡ reading.now.read.now) }
     ensures form { IfOk result (λ given. given.form ≡ reading.now.form) }
-    ensures counted { IfOk result
-        (λ given. IsCounted reading.now.read.now.input given.instance.now given.counts) }
     ensures none { OnOk result (too_many_in reading.now.read.now.input ≡ None) }
     ensures stop { IfErr result
         (λ stop. StopsBy (λ _. ⊥) (IsTooMany reading.now.read.now.input) ⊥ stop) }
@@ -170,7 +159,6 @@ fn perform_on_two<K: Sink>(
     requires sides { takes_rooms_alone (job_of job.now) ≡ false }
     requires few { takes_text (job_of job.now) ≡ true → given.now.read.now.rest_line
         + length (lines (drop given.now.read.now.rest bytes.now)) < 2 ^ 32 }
-    requires counted { IsCounted given.now.read.now.input given.now.instance.now given.now.counts }
     requires bounds { IsInBounds (job_of job.now) }
     requires form { IsFormFor (job_of job.now) given.now.form }
     ensures leaves { (text : List ℕ) → IsTextFor (job_of job.now) text bytes.now
@@ -249,7 +237,6 @@ fn solve<K: Sink>(
     side: Option<Side>,
     sink: &mut K,
 ) -> Result<Status, AllocError>
-    requires { IsCounted given.now.read.now.input given.now.instance.now given.now.counts }
     ensures { Leaves given.now.form
         (With Status.Done (IsShown given.now.read.now.input
         (IsSolution (unwrap_or side Side.Proposers) given.now.instance.now)))
@@ -330,7 +317,6 @@ fn show_rest<K: Sink>(
 
 /// Does `reduced`.
 fn reduce<K: Sink>(alloc: Global, given: &Counted<'_>, sink: &mut K) -> Result<Status, AllocError>
-    requires { IsCounted given.now.read.now.input given.now.instance.now given.now.counts }
     ensures { Leaves given.now.form
         (With Status.Done (IsShown given.now.read.now.input (IsReduction given.now.instance.now)))
         K.held K.faults sink.old sink.new result }
@@ -347,7 +333,6 @@ fn show_rotations<K: Sink>(
     given: &Counted<'_>,
     sink: &mut K,
 ) -> Result<Status, AllocError>
-    requires { IsCounted given.now.read.now.input given.now.instance.now given.now.counts }
     ensures { Leaves given.now.form
         (With Status.Done (IsShown given.now.read.now.input
         (IsRotationAnswer given.now.instance.now)))
@@ -367,8 +352,7 @@ fn list<K: Sink>(
     limit: u32,
     sink: &mut K,
 ) -> Result<Status, Stop>
-    requires counted { IsCounted given.now.read.now.input given.now.instance.now given.now.counts }
-    requires limit { IsLimit limit }
+    requires { IsLimit limit }
     ensures leaves { Leaves given.now.form
         (With Status.Done (IsShown given.now.read.now.input (IsListAnswer (cursor_in after.now)
         limit given.now.instance.now)))
@@ -398,7 +382,6 @@ fn show_pairs<K: Sink>(
     given: &Counted<'_>,
     sink: &mut K,
 ) -> Result<Status, AllocError>
-    requires { IsCounted given.now.read.now.input given.now.instance.now given.now.counts }
     ensures { Leaves given.now.form
         (With Status.Done (IsShown given.now.read.now.input (IsPairsAnswer given.now.instance.now)))
         K.held K.faults sink.old sink.new result }
@@ -415,7 +398,6 @@ fn show_regret<K: Sink>(
     given: &Counted<'_>,
     sink: &mut K,
 ) -> Result<Status, AllocError>
-    requires { IsCounted given.now.read.now.input given.now.instance.now given.now.counts }
     ensures { Leaves given.now.form
         (λ status. IsShown given.now.read.now.input (IsRegretted given.now.read.now.input status))
         K.held K.faults sink.old sink.new result }
@@ -440,7 +422,6 @@ fn show_lightest<K: Sink>(
     by: Measure,
     sink: &mut K,
 ) -> Result<Status, AllocError>
-    requires { IsCounted given.now.read.now.input given.now.instance.now given.now.counts }
     ensures { Leaves given.now.form
         (λ status. IsShown given.now.read.now.input (IsWeighed by given.now.read.now.input status))
         K.held K.faults sink.old sink.new result }
@@ -466,8 +447,7 @@ fn survey<K: Sink>(
     tallies: &mut Vec<Box<dyn Tally>>,
     sink: &mut K,
 ) -> Result<Status, AllocError>
-    requires counted { IsCounted given.now.read.now.input given.now.instance.now given.now.counts }
-    requires limit { IsLimit limit }
+    requires { IsLimit limit }
     ensures { Leaves given.now.form
         (With Status.Done (IsShown given.now.read.now.input (IsSurveyAnswer (map
         (λ t. shown_as (kind t) (shown t)) tallies.old.items) limit given.now.instance.now)))
@@ -487,7 +467,6 @@ fn survey<K: Sink>(
 
 /// Does `median`.
 fn show_median<K: Sink>(alloc: Global, given: &Counted<'_>, sink: &mut K) -> Result<Status, Stop>
-    requires { IsCounted given.now.read.now.input given.now.instance.now given.now.counts }
     ensures leaves { Leaves given.now.form
         (λ status. IsShown given.now.read.now.input (IsMiddle given.now.read.now.input status))
         K.held K.faults sink.old sink.new result }
@@ -516,8 +495,7 @@ fn show_route<K: Sink>(
     bytes: &[u8],
     sink: &mut K,
 ) -> Result<Status, Stop>
-    requires counted { IsCounted given.now.read.now.input given.now.instance.now given.now.counts }
-    requires few { given.now.read.now.rest_line
+    requires { given.now.read.now.rest_line
         + length (lines (drop given.now.read.now.rest bytes.now)) < 2 ^ 32 }
     ensures leaves { Leaves given.now.form
         (With Status.Done (IsShown given.now.read.now.input (IsRouteAnswer (texts_from bytes.now
@@ -527,7 +505,7 @@ fn show_route<K: Sink>(
         (IsGivenRefusal given.now.instance.now (texts_from bytes.now given.now.read.now.rest)
         given.now.read.now.rest_line) ⊥ stop) }
 {
-    let ends = given_behind(alloc, given.read, given.instance, bytes)?;
+    let ends = given_behind(alloc, given, bytes)?;
     let seats = Seats::counted(alloc, given.instance, &given.counts)?;
     let found = find_route(alloc, given.instance, &seats, &ends)?;
     let lines = route_lines(&given.read.input, given.instance, &seats, &ends, &found);

@@ -13,9 +13,9 @@ returns-in-Err-BadAnswer-clause-stop c =
 pub returns-in_ok-fields-in-Err-NotStable-clause-stop : goal.returns-in_ok-fields-in-Err-NotStable-clause-stop
 returns-in_ok-fields-in-Err-NotStable-clause-stop c =
     let u = c.in-Err-NotStable.unstable in
-    let input = c.args.read.now.input in
+    let input = c.args.given.now.read.now.input in
     let shown = c.in_ok-fields-in-Err-NotStable.ensures in (
       unstable u (rw c.in-Err-NotStable.field-0-is at c.in-Err-NotStable.ensures.fault)
-          (ap (with_detail NotStable u.line) (shown ∙ ap (λ (i : Input). unstable_fields i u) c.requires.two)),
+          (ap (with_detail NotStable u.line) (shown ∙ ap (λ (i : Input). unstable_fields i u) c.args.given.now.counted.two)),
       ap are_plain shown ∙ unstable_plain input c.kind-kind.ensures.sound u,
     )

@@ -24,19 +24,19 @@ pub returns-in_ok-solve-in-Solve-clause-leaves : goal.returns-in_ok-solve-in-Sol
 returns-in_ok-solve-in-Solve-clause-leaves g c = λ text kept accepted.
     let ok = rw c.in-Solve.is at accepted in
     let given = c.args.given.now in
-    rw c.in-Solve.is (answer_over (Solve c.in-Solve.side) text (read_of given.read.now) (IsSolved c.in-Solve.side) _ _ _ _ _ ok (two_solved c.in-Solve.side given.read.now.input given.instance.now _ _ _ _ _ c.requires.counted.two c.in_ok-solve-in-Solve.ensures))
+    rw c.in-Solve.is (answer_over (Solve c.in-Solve.side) text (read_of given.read.now) (IsSolved c.in-Solve.side) _ _ _ _ _ ok (two_solved c.in-Solve.side given.read.now.input given.instance.now _ _ _ _ _ c.args.given.now.counted.two c.in_ok-solve-in-Solve.ensures))
 
 pub returns-in_ok-reduce-in-Reduced-clause-leaves : goal.returns-in_ok-reduce-in-Reduced-clause-leaves
 returns-in_ok-reduce-in-Reduced-clause-leaves g c = λ text kept accepted.
     let ok = rw c.in-Reduced.is at accepted in
     let given = c.args.given.now in
-    rw c.in-Reduced.is (wrote_answer Reduced text (read_of given.read.now) given.instance.now IsReduction Done _ _ _ _ _ ok c.requires.counted.two c.in_ok-reduce-in-Reduced.ensures)
+    rw c.in-Reduced.is (wrote_answer Reduced text (read_of given.read.now) given.instance.now IsReduction Done _ _ _ _ _ ok c.args.given.now.counted.two c.in_ok-reduce-in-Reduced.ensures)
 
 pub returns-in_ok-show_rotations-in-Rotations-clause-leaves : goal.returns-in_ok-show_rotations-in-Rotations-clause-leaves
 returns-in_ok-show_rotations-in-Rotations-clause-leaves g c = λ text kept accepted.
     let ok = rw c.in-Rotations.is at accepted in
     let given = c.args.given.now in
-    rw c.in-Rotations.is (wrote_answer Rotations text (read_of given.read.now) given.instance.now IsRotationAnswer Done _ _ _ _ _ ok c.requires.counted.two c.in_ok-show_rotations-in-Rotations.ensures)
+    rw c.in-Rotations.is (wrote_answer Rotations text (read_of given.read.now) given.instance.now IsRotationAnswer Done _ _ _ _ _ ok c.args.given.now.counted.two c.in_ok-show_rotations-in-Rotations.ensures)
 
 pub returns-in-List-clause-leaves : goal.returns-in-List-clause-leaves
 returns-in-List-clause-leaves g c = λ text kept accepted.
@@ -44,54 +44,54 @@ returns-in-List-clause-leaves g c = λ text kept accepted.
     let given = c.args.given.now in
     let after = cursor_in c.in-List.after in
     rw c.in-List.is (leaves_for c.list.result _ _ (λ status w. wrote_as (JobData.List after c.in-List.limit) text (read_of given.read.now) (IsListAnswer after c.in-List.limit given.instance.now) (IsAnyList after c.in-List.limit) Done _ _ _ _ status ok
-    (λ answer h. subst (λ (input : Input). IsAnyList after c.in-List.limit input answer) (sym c.requires.counted.two) h) w) c.list.ensures.leaves)
+    (λ answer h. subst (λ (input : Input). IsAnyList after c.in-List.limit input answer) (sym c.args.given.now.counted.two) h) w) c.list.ensures.leaves)
 
 pub returns-in_ok-show_pairs-in-Pairs-clause-leaves : goal.returns-in_ok-show_pairs-in-Pairs-clause-leaves
 returns-in_ok-show_pairs-in-Pairs-clause-leaves g c = λ text kept accepted.
     let ok = rw c.in-Pairs.is at accepted in
     let given = c.args.given.now in
-    rw c.in-Pairs.is (wrote_answer Pairs text (read_of given.read.now) given.instance.now IsPairsAnswer Done _ _ _ _ _ ok c.requires.counted.two c.in_ok-show_pairs-in-Pairs.ensures)
+    rw c.in-Pairs.is (wrote_answer Pairs text (read_of given.read.now) given.instance.now IsPairsAnswer Done _ _ _ _ _ ok c.args.given.now.counted.two c.in_ok-show_pairs-in-Pairs.ensures)
 
 pub returns-in_ok-show_regret-in-Regret-clause-leaves : goal.returns-in_ok-show_regret-in-Regret-clause-leaves
 returns-in_ok-show_regret-in-Regret-clause-leaves g c = λ text kept accepted.
     let ok = rw c.in-Regret.is at accepted in
     rw c.in-Regret.is (answer_over Regret text (read_of c.args.given.now.read.now) IsRegretted _ _ _ _ _ ok c.in_ok-show_regret-in-Regret.ensures)
 
-pub choose-requires-clause-few : goal.choose-requires-clause-few
-choose-requires-clause-few g c = c.requires.few (ap (λ j. takes_text (job_of j)) c.in-Meet.is)
+pub choose-requires : goal.choose-requires
+choose-requires g c = c.requires.few (ap (λ j. takes_text (job_of j)) c.in-Meet.is)
 
-pub choose-requires-in-Join-clause-few : goal.choose-requires-in-Join-clause-few
-choose-requires-in-Join-clause-few g c = c.requires.few (ap (λ j. takes_text (job_of j)) c.in-Join.is)
+pub choose-requires-in-Join : goal.choose-requires-in-Join
+choose-requires-in-Join g c = c.requires.few (ap (λ j. takes_text (job_of j)) c.in-Join.is)
 
 pub returns-in-Meet-clause-leaves : goal.returns-in-Meet-clause-leaves
 returns-in-Meet-clause-leaves g c = λ text kept accepted.
     let ok = rw c.in-Meet.is at accepted in
     let given = c.args.given.now in
     let same = kept (ap (λ j. takes_text (job_of j)) c.in-Meet.is) in
-    rw c.in-Meet.is (leaves_for c.choose.result _ _ (λ status w. wrote_answer_by Meet text (read_of given.read.now) given.instance.now (λ read. IsChosenAnswer Better (texts_from text read.rest)) Done _ _ _ _ status ok c.requires.counted.two w) (rw same at c.choose.ensures.leaves))
+    rw c.in-Meet.is (leaves_for c.choose.result _ _ (λ status w. wrote_answer_by Meet text (read_of given.read.now) given.instance.now (λ read. IsChosenAnswer Better (texts_from text read.rest)) Done _ _ _ _ status ok c.args.given.now.counted.two w) (rw same at c.choose.ensures.leaves))
 
 pub returns-in-Meet-clause-stop : goal.returns-in-Meet-clause-stop
 returns-in-Meet-clause-stop g c = λ text kept.
     let same = kept (ap (λ j. takes_text (job_of j)) c.in-Meet.is) in
-    rw c.in-Meet.is (rw c.requires.counted.two (rw same at c.choose.ensures.stop))
+    rw c.in-Meet.is (rw c.args.given.now.counted.two (rw same at c.choose.ensures.stop))
 
 pub returns-in-Join-clause-leaves : goal.returns-in-Join-clause-leaves
 returns-in-Join-clause-leaves g c = λ text kept accepted.
     let ok = rw c.in-Join.is at accepted in
     let given = c.args.given.now in
     let same = kept (ap (λ j. takes_text (job_of j)) c.in-Join.is) in
-    rw c.in-Join.is (leaves_for c.choose-in-Join.result _ _ (λ status w. wrote_answer_by Join text (read_of given.read.now) given.instance.now (λ read. IsChosenAnswer Worse (texts_from text read.rest)) Done _ _ _ _ status ok c.requires.counted.two w) (rw same at c.choose-in-Join.ensures.leaves))
+    rw c.in-Join.is (leaves_for c.choose-in-Join.result _ _ (λ status w. wrote_answer_by Join text (read_of given.read.now) given.instance.now (λ read. IsChosenAnswer Worse (texts_from text read.rest)) Done _ _ _ _ status ok c.args.given.now.counted.two w) (rw same at c.choose-in-Join.ensures.leaves))
 
 pub returns-in-Join-clause-stop : goal.returns-in-Join-clause-stop
 returns-in-Join-clause-stop g c = λ text kept.
     let same = kept (ap (λ j. takes_text (job_of j)) c.in-Join.is) in
-    rw c.in-Join.is (rw c.requires.counted.two (rw same at c.choose-in-Join.ensures.stop))
+    rw c.in-Join.is (rw c.args.given.now.counted.two (rw same at c.choose-in-Join.ensures.stop))
 
 pub returns-in_ok-survey-in-Survey-clause-leaves : goal.returns-in_ok-survey-in-Survey-clause-leaves
 returns-in_ok-survey-in-Survey-clause-leaves g c = λ text kept accepted.
     let ok = rw c.in-Survey.is at accepted in
     let given = c.args.given.now in
-    rw c.in-Survey.is (wrote_answer (Survey c.in-Survey.limit) text (read_of given.read.now) given.instance.now _ Done _ _ _ _ _ ok c.requires.counted.two c.in_ok-survey-in-Survey.ensures)
+    rw c.in-Survey.is (wrote_answer (Survey c.in-Survey.limit) text (read_of given.read.now) given.instance.now _ Done _ _ _ _ _ ok c.args.given.now.counted.two c.in_ok-survey-in-Survey.ensures)
 
 pub returns-in_ok-show_lightest-in-Weight-clause-leaves : goal.returns-in_ok-show_lightest-in-Weight-clause-leaves
 returns-in_ok-show_lightest-in-Weight-clause-leaves g c = λ text kept accepted.
@@ -103,20 +103,20 @@ returns-in-Median-clause-leaves g c = λ text kept accepted.
     let ok = rw c.in-Median.is at accepted in
     rw c.in-Median.is (leaves_for c.show_median.result _ _ (λ status w. answer_over Median text (read_of c.args.given.now.read.now) IsMiddle _ _ _ _ status ok w) c.show_median.ensures.leaves)
 
-pub show_route-requires-clause-few : goal.show_route-requires-clause-few
-show_route-requires-clause-few g c = c.requires.few (ap (λ j. takes_text (job_of j)) c.in-Route.is)
+pub show_route-requires : goal.show_route-requires
+show_route-requires g c = c.requires.few (ap (λ j. takes_text (job_of j)) c.in-Route.is)
 
 pub returns-in-Route-clause-leaves : goal.returns-in-Route-clause-leaves
 returns-in-Route-clause-leaves g c = λ text kept accepted.
     let ok = rw c.in-Route.is at accepted in
     let given = c.args.given.now in
     let same = kept (ap (λ j. takes_text (job_of j)) c.in-Route.is) in
-    rw c.in-Route.is (leaves_for c.show_route.result _ _ (λ status w. wrote_answer_by Route text (read_of given.read.now) given.instance.now (λ read. IsRouteAnswer (texts_from text read.rest)) Done _ _ _ _ status ok c.requires.counted.two w) (rw same at c.show_route.ensures.leaves))
+    rw c.in-Route.is (leaves_for c.show_route.result _ _ (λ status w. wrote_answer_by Route text (read_of given.read.now) given.instance.now (λ read. IsRouteAnswer (texts_from text read.rest)) Done _ _ _ _ status ok c.args.given.now.counted.two w) (rw same at c.show_route.ensures.leaves))
 
 pub returns-in-Route-clause-stop : goal.returns-in-Route-clause-stop
 returns-in-Route-clause-stop g c = λ text kept.
     let same = kept (ap (λ j. takes_text (job_of j)) c.in-Route.is) in
-    rw c.in-Route.is (rw c.requires.counted.two (rw same at c.show_route.ensures.stop))
+    rw c.in-Route.is (rw c.args.given.now.counted.two (rw same at c.show_route.ensures.stop))
 
 pub returns-in_ok-export-in-Export-clause-leaves : goal.returns-in_ok-export-in-Export-clause-leaves
 returns-in_ok-export-in-Export-clause-leaves g c = λ text kept accepted.
