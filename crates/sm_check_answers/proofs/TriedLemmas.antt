@@ -1,5 +1,5 @@
 -- What a change of some proposers' places leaves as it was, and what it may make.
-use Rattle.std.proofs.Common.{◌≡◌, ℕ, zero, suc, ◌+◌, ◌<◌, ◌≤◌, ◌⊎◌, inl, inr, arith, refl, sym, ap, ◌∙◌, subst, Bool, true, false, List, length, min, set, get_or, slice_index, Option, Some, None, unwrap_or, is_some, IsTrue}
+use Rattle.std.proofs.Common.{◌≡◌, ℕ, zero, suc, ◌+◌, ◌<◌, ◌≤◌, ◌⊎◌, inl, inr, arith, refl, sym, ap, ◌∙◌, subst, Bool, true, false, List, length, min, set, get_or, slice_index, Option, Some, None, is_some, IsTrue}
 use Rattle.std.proofs.lemmas.Bool.{false≢true, eqb-true}
 use Rattle.std.proofs.lemmas.List.{get_or_past, get_or_default, length-set, get_or-set_same, get_or-set_other}
 use Rattle.std.specs.Prelude.{if◌then◌else◌}
@@ -110,14 +110,6 @@ stable_again {w} {old} {new} {limits} s l m reviewers proposers = record {
 -- a place that is read is the one that is held
 pub read_held : {w : Written} {places : List (Option ℕ)} → IsAssignment w places → (p i : ℕ) (read : Option ℕ) → p < length w.proposers → read ≡ get_or places p read → read ≡ Some i → held places p ≡ Some i
 read_held {w} {places} assigned p i read h is some = get_or_default places p None read (omega (arith, h, assigned.one_each)) ∙ sym is ∙ some
-
--- nobody stands worse than at the end of its list
-pub standing_le : {w : Written} {places : List (Option ℕ)} → IsAssignment w places → (p : ℕ) → standing w places p ≤ length (row w.proposers p)
-standing_le {w} {places} assigned p = go (held places p) refl
-  where
-    go : (place : Option ℕ) → held places p ≡ place → unwrap_or place (length (row w.proposers p)) ≤ length (row w.proposers p)
-    go None e = omega arith
-    go (Some i) e = omega (arith, assigned.on_lists p i e)
 
 -- whether a held place is of a reviewer that lists its proposer
 pub acceptable_by : {w : Written} → IsInstance w → (places : List (Option ℕ)) (p i : ℕ) → held places p ≡ Some i → i < length (row w.proposers p)

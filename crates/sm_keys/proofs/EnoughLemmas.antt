@@ -5,7 +5,7 @@ use Rattle.std.specs.Str.{bytes_eq}
 use Rattle.std.specs.Borrow.{Bor}
 use Rattle.std.proofs.Math.Seq.{drop-cons}
 use Rattle.std.proofs.lemmas.Bool.{false≢true}
-use Rattle.std.proofs.lemmas.List.{append-nil, take-append-drop, take-append-le, drop-append-le, get_or-take, get_or-drop, get_or-map, length-take-le, length-drop, length-map}
+use Rattle.std.proofs.lemmas.List.{take-append-drop, take-append-le, drop-append-le, get_or-take, get_or-drop, get_or-map, length-take-le, length-drop, length-map}
 use Rattle.std.proofs.lemmas.List.Folds.{list_any-append, list_all-append, list_all_at}
 use Rattle.sm_text.specs.Slices.{texts_of}
 use Rattle.sm_keys.specs.Tables.{has_repeated}
@@ -140,10 +140,6 @@ module _ (line : List ℕ) (kept : List (List ℕ)) (from : ℕ) (enough : AreEn
   enough_step start stop leading now more =
       enough_twice (now ++ tokens (drop stop line)) (kept ++ tokens (drop from line)) (tokens line)
       (subst (λ ts. AreEnough (now ++ tokens (drop stop line)) (kept ++ ts)) (sym leading.leads) (more (tokens (drop stop line)))) enough
-
-  -- nothing is behind them
-  pub enough_end : tokens (drop from line) ≡ [] → AreEnough kept (tokens line)
-  enough_end none = subst (λ ts. AreEnough ts (tokens line)) (ap (λ ts. kept ++ ts) none ∙ append-nil kept) enough
 
 -- the names at the end of tokens, of which those from a place on are names and the one before it isn't
 pub names_behind : (place : ℕ) (tokens : List (List ℕ)) → list_all is_name (drop place tokens) ≡ true → place ≤ length tokens

@@ -80,13 +80,6 @@ line_some first now new line at stamp i indexes so_far empty more declared stamp
     ]
 
 module _ (texts : List (List ℕ)) (old : List ℕ) (line : List ℕ) (stamp from start : ℕ) (before : List ℕ) where
-  -- nothing more is listed
-  pub further_none : ListsLineFurther texts old old line stamp from from start start before before
-  further_none = record {
-    each = refl;
-    further = λ first t table names stamps so_far. subst (λ (s : List ℕ). IsListingLine first (record t { stamps = s }) line from stamp start before) stamps so_far;
-  }
-
   -- one more name is listed
   pub line_further : (now : List ℕ) (at next i : ℕ) (indexes : List ℕ) (index : ℕ) → ListsLineFurther texts old now line stamp from at start i before indexes → 0 < stamp
       → IsNameAt texts line at index next → get_or now index 0 ≢ stamp → ListsLineFurther texts old (set now index stamp) line stamp from next start (i + 1) before (indexes ++ index ∷ [])

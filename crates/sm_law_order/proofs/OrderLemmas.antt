@@ -3,12 +3,12 @@ use Rattle.std.proofs.Common.{◌≡◌, ℕ, zero, suc, ◌+◌, ◌<◌, ◌�
 use Rattle.std.specs.List.{range_with_len}
 use Rattle.std.proofs.lemmas.List.{get_or-set_same, get_or-set_other, length-set}
 use Rattle.std.proofs.lemmas.List.FromFn.{get_or-map-range_with_len, length-map-range_with_len}
-use Rattle.sm_lists.proofs.Counting.{Decided, Decided-and, Decided-eq, Decided-lt, Decided-some, lt_or_le, eq_or_ne, First}
-use Rattle.sm_market.specs.Lists.{Lists, place_of, IsMarket}
+use Rattle.sm_lists.proofs.Counting.{Decided, Decided-and, Decided-some, lt_or_le, eq_or_ne}
+use Rattle.sm_market.specs.Lists.{Lists, IsMarket}
 use Rattle.sm_market.specs.Matching.{Places}
 use Rattle.sm_market.specs.Stable.{IsStable}
-use Rattle.sm_theory.specs.Rotations.{IsExposed, proposer_at, reviewer_at, target_at, next_in}
-use Rattle.sm_theory.specs.Chains.{rotation_at, IsCompleteChain, MovesItBefore, MakesItPass, IsNeededBy}
+use Rattle.sm_theory.specs.Rotations.{IsExposed, proposer_at}
+use Rattle.sm_theory.specs.Chains.{rotation_at, IsCompleteChain, IsNeededBy}
 use Rattle.sm_theory.specs.ClosedSets.{is_member, IsMember, IsClosed, matching_of}
 use Rattle.sm_theory.specs.Net.{IsPath}
 use Rattle.sm_theory.proofs.Core.Cycle.{moves_at}
@@ -19,6 +19,7 @@ use Rattle.sm_theory.proofs.Bridge.Chain.{chain_of, closed_of, Decided-member}
 use Rattle.sm_theory.proofs.Bridge.Sets.{set_is_of}
 use Rattle.sm_theory.proofs.Chains.Rotations.{predecessor_is_earlier, sets_are_matchings, exposed_where_ready}
 use Rattle.sm_theory.proofs.Routes.Shortest.{added_closed, added_one}
+use Rattle.sm_theory.proofs.Vectors.Decisions.{Decided-needed}
 use Rattle.sm_law_order.specs.Order.{IsPredecessor, Precedes, IsEliminated}
 use Rattle.sm_law_order.specs.Laws.{PrecedesIsOrder, ClosedSetsAreDownSets, PrecedesInClosedSets, PrecedesInMatchings, PrecedesWhereExposed}
 
@@ -56,62 +57,6 @@ closed_sets_are_down_sets l rotations set = (
     closed = λ i j i_in j_in member need. down.down i j (precedes_before (record { early_in = i_in; late_in = j_in; needed = need }) (precedes_itself l rotations j)) member;
   }),
 )
-
--- whether a rotation is a predecessor of another is decided
-Decided-moves_before : (early late : List (ℕ × ℕ)) → Decided (MovesItBefore early late)
-Decided-moves_before early late = elim (Decided-some (length early) Some_other (λ i _. Decided-some (length late) (Both i) (λ j _. decide i j))) [
-  | inl w ↦ inl (record { pair = w.at; pair_in = w.below; other = w.holds.at; other_in = w.holds.below; same_proposer = w.holds.holds.0; same_reviewer = w.holds.holds.1 })
-  | inr none ↦ inr (λ w. none (some_first (length early) Some_other (λ i _. Decided-some (length late) (Both i) (λ j _. decide i j)) w.pair w.pair_in
-      (some_first (length late) (Both w.pair) (λ j _. decide w.pair j) w.other w.other_in (w.same_proposer, w.same_reviewer))))
-]
-  where
-    Both : ℕ → ℕ → Type 0
-    Both i j = (proposer_at early i ≡ proposer_at late j) × (target_at early i ≡ reviewer_at late j)
-
-    Some_other : ℕ → Type 0
-    Some_other i = First (length late) (Both i)
-
-    decide : (i j : ℕ) → Decided (Both i j)
-    decide i j = Decided-and (Decided-eq (proposer_at early i) (proposer_at late j)) (Decided-eq (target_at early i) (reviewer_at late j))
-
-Decided-makes_pass : (l : Lists) (early late : List (ℕ × ℕ)) → Decided (MakesItPass l early late)
-Decided-makes_pass l early late = elim (Decided-some (length early) Some_other (λ i _. Decided-some (length late) (All i) (λ j _. decide i j))) [
-  | inl w ↦
-      let h = w.holds.holds in
-      inl (record { pair = w.at; pair_in = w.below; other = w.holds.at; other_in = w.holds.below; behind = h.0; before = h.1; gains = h.2; loses = h.3 })
-  | inr none ↦ inr (λ w. none (some_first (length early) Some_other (λ i _. Decided-some (length late) (All i) (λ j _. decide i j)) w.pair w.pair_in
-      (some_first (length late) (All w.pair) (λ j _. decide w.pair j) w.other w.other_in (w.behind, w.before, w.gains, w.loses))))
-]
-  where
-    All : ℕ → ℕ → Type 0
-    All i j =
-        let p = proposer_at late j in
-        let r = target_at early i in
-        (place_of l.proposers p (reviewer_at late j) < place_of l.proposers p r)
-        × (place_of l.proposers p r < place_of l.proposers p (target_at late j))
-        × (place_of l.reviewers r (proposer_at early i) < place_of l.reviewers r p)
-        × (place_of l.reviewers r p < place_of l.reviewers r (proposer_at early (next_in early i)))
-
-    Some_other : ℕ → Type 0
-    Some_other i = First (length late) (All i)
-
-    four : {P Q R S : Type 0} → Decided P → Decided Q → Decided R → Decided S → Decided (P × Q × R × S)
-    four (inl p) (inl q) (inl r) (inl s) = inl (p, q, r, s)
-    four (inr p) _ _ _ = inr (λ w. p w.0)
-    four (inl _) (inr q) _ _ = inr (λ w. q w.1)
-    four (inl _) (inl _) (inr r) _ = inr (λ w. r w.2)
-    four (inl _) (inl _) (inl _) (inr s) = inr (λ w. s w.3)
-
-    decide : (i j : ℕ) → Decided (All i j)
-    decide i j = four (Decided-lt _ _) (Decided-lt _ _) (Decided-lt _ _) (Decided-lt _ _)
-
-Decided-needed : (l : Lists) (early late : List (ℕ × ℕ)) → Decided (IsNeededBy l early late)
-Decided-needed l early late = either (Decided-moves_before early late) (Decided-makes_pass l early late)
-  where
-    either : Decided (MovesItBefore early late) → Decided (MakesItPass l early late) → Decided (IsNeededBy l early late)
-    either (inl w) _ = inl (inl w)
-    either (inr _) (inl w) = inl (inr w)
-    either (inr a) (inr b) = inr (λ w. elim w [ inl x ↦ a x | inr x ↦ b x ])
 
 -- a decision as a `Bool`
 bool_of : {P : Type 0} → Decided P → Bool

@@ -1,5 +1,5 @@
 -- An instance is read as it is, whatever stands behind its line `end`, and so is what stands there.
-use Rattle.std.proofs.Common.{◌≡◌, ℕ, ◌+◌, ◌<◌, ◌≤◌, ◌==◌, Bool, true, false, List, [], ◌∷◌, ◌++◌, length, map, All, Ok, Err, refl, sym, ap, ◌∙◌, arith, append_assoc, le-ltb, length-append}
+use Rattle.std.proofs.Common.{◌≡◌, ℕ, ◌+◌, ◌<◌, ◌≤◌, ◌==◌, Bool, true, false, List, [], ◌∷◌, ◌++◌, length, map, All, Ok, Err, refl, sym, ap, ◌∙◌, arith, append_assoc, length-append}
 use Rattle.std.specs.List.{onto_first, list_all}
 use Rattle.std.proofs.Math.Seq.{drop-append_seam}
 use Rattle.std.proofs.lemmas.List.Elements.{All-head, All-tail}
@@ -13,6 +13,7 @@ use Rattle.sm_agents.specs.declared.kinds.Kind.{Kind}
 use Rattle.sm_agents.specs.Named.{Said, nothing}
 use Rattle.sm_reader.specs.Judging.{Verdict, goes, stops, refuses, Heading, passes, heads, faces, verdict_on, by_verdict, heading_of, by_heading}
 use Rattle.sm_reader.specs.InstanceText.{ReadText, instance_text, before_header, behind_header, ended}
+use Rattle.sm_reader.proofs.ReadingLemmas.{instance_text-short}
 use Rattle.sm_report.specs.Lines.{LineData}
 use Rattle.sm_report.specs.Sound.{IsLineOf}
 use Rattle.sm_report.specs.Texts.{text_of_line}
@@ -74,17 +75,12 @@ before_header_more number place (line ∷ ls) more read e =
     by_case (heads kind format) deep h = behind_header_more kind format number nothing (number + 1) (place + length line) ls more read h
     by_case (faces fault) deep h = absurd cc
 
--- what is short enough is read by its lines
-short : (bytes : List ℕ) → length bytes ≤ most_bytes → instance_text bytes ≡ before_header 1 0 (lines bytes)
-unfolding instance_text
-short bytes le = rw (le-ltb most_bytes (length bytes) le) refl
-
 -- the text of an instance that ends with a line break is read as the same with more behind it, where that is short enough
 pub read_more : (front more : List ℕ) (read : ReadText) → length ((front ++ LF ∷ []) ++ more) ≤ most_bytes → instance_text (front ++ LF ∷ []) ≡ Ok read → instance_text ((front ++ LF ∷ []) ++ more) ≡ Ok read
 read_more front more read le means =
     let long = length-append (front ++ LF ∷ []) more in
-    let alone : before_header 1 0 (lines (front ++ LF ∷ [])) ≡ Ok read = sym (short (front ++ LF ∷ []) (omega (arith, le, long))) ∙ means in
-    short ((front ++ LF ∷ []) ++ more) le
+    let alone : before_header 1 0 (lines (front ++ LF ∷ [])) ≡ Ok read = sym (instance_text-short (front ++ LF ∷ []) (omega (arith, le, long))) ∙ means in
+    instance_text-short ((front ++ LF ∷ []) ++ more) le
     ∙ ap (before_header 1 0) (ap lines (append_assoc front (LF ∷ []) more) ∙ lines_behind front more)
     ∙ before_header_more 1 0 (lines (front ++ LF ∷ [])) (lines more) read alone
 

@@ -16,6 +16,7 @@ use Rattle.sm_agents.specs.declared.kinds.Side.{Side}
 use Rattle.sm_agents.specs.declared.kinds.Side.TheVariants.{Proposers}
 use Rattle.sm_reader.specs.InstanceText.{ReadText, Refusal, instance_text}
 use Rattle.sm_reader.proofs.SoundTextLemmas.{text_is_sound}
+use Rattle.sm_reader.proofs.ReadingLemmas.{instance_text-too_long}
 use Rattle.sm_report.specs.Lines.{LineData}
 use Rattle.sm_report.specs.Texts.{text_of_line}
 use Rattle.sm_answer.specs.Printing.{IsShown}
@@ -46,7 +47,6 @@ use Rattle.sm_top.specs.Accepting.{accepted, behind_text, after_end, wrong_kind,
 use Rattle.sm_serve.specs.Refusals.{first_refusal, too_many_in}
 use Rattle.sm_top.specs.Checked.{verdict_lines}
 use Rattle.sm_top.specs.Outcome.{OfTwo, IsSolved, IsAnyList, IsRegretted, IsWeighed, IsAnswerOver, IsAnswer}
-use Rattle.sm_serve.proofs.RunLemmas.{too_long_text}
 use Rattle.sm_law_round.specs.Round.{IsInstanceText, IsListTaken, WrittenIsChecked}
 use Rattle.sm_law_round.proofs.BehindLemmas.{read_more, answer_behind}
 
@@ -155,7 +155,7 @@ module _ (others : List Shown) (text : List ℕ) (read : ReadText) (t : IsInstan
 -- what was accepted is short enough
 fits : (job : JobData) (bytes : List ℕ) (read : ReadText) → accepted job bytes ≡ Ok read → length bytes ≤ most_bytes
 fits job bytes read ok = elim (lt_or_le most_bytes (length bytes)) [
-  | inl long ↦ absurd (refused (sym (ap (behind_text job bytes) (too_long_text bytes long)) ∙ ok))
+  | inl long ↦ absurd (refused (sym (ap (behind_text job bytes) (instance_text-too_long bytes long)) ∙ ok))
   | inr le ↦ le
 ]
   where

@@ -26,6 +26,7 @@ use Rattle.sm_instance.specs.declared.inputs.Input.{Input}
 use Rattle.sm_instance.specs.declared.inputs.Input.TheVariants.{Two, Room}
 use Rattle.sm_agents.specs.declared.kinds.Kind.{Kind}
 use Rattle.sm_agents.specs.declared.kinds.Kind.TheVariants.{Marriage, Hospitals, Roommates}
+use Rattle.sm_agents.proofs.ListLemmas.{get_or-names}
 use Rattle.sm_report.specs.declared.lines.Seat.{Seat}
 use Rattle.sm_report.specs.Reasons.{reasons, IsReason, name_of_reason}
 use Rattle.sm_report.specs.Sound.{IsOnLeft, IsOnRight, IsSeatNumber, IsSmall, IsLarge, IsRotation, IsLimit, AreRotations}
@@ -106,9 +107,6 @@ place_again names i d within fresh =
     ap (λ n. cond (nat_lt n (length names)) (Some n) None) at ∙ by_answer (nat_lt i (length names)) (λ is. ap (λ t. cond t (Some i) None) is) (λ is. absurd (let l : length names ≤ i = ltb-false i (length names) is in omega arith))
 
 -- agents
-name_at : (agents : List AgentData) (a : ℕ) → a < length agents → get_or (names_of agents) a [] ≡ (agent_at agents a).name
-name_at agents a within = get_or-map (λ (agent : AgentData). agent.name) agents a _ [] within
-
 agent_inverts : (agents : List AgentData) (single : Bool) → AreSoundAgents agents single
     → Inverts (λ a. a < length agents) (λ a. (agent_at agents a).name) (λ name. position (bytes_eq name) (names_of agents))
 agent_inverts agents single s = record { again = again; sound = sound; same = same } where
@@ -117,9 +115,9 @@ agent_inverts agents single s = record { again = again; sound = sound; same = sa
 
   again : (a : ℕ) → a < length agents → position (bytes_eq (agent_at agents a).name) (names_of agents) ≡ Some a
   again a within =
-      ap (λ name. position (bytes_eq name) (names_of agents)) (sym (name_at agents a within))
+      ap (λ name. position (bytes_eq name) (names_of agents)) (sym (get_or-names agents a within))
       ∙ place_again (names_of agents) a [] (omega (arith, long))
-      (λ k h e. (s.sound a within).fresh k h (sym (name_at agents k (omega arith)) ∙ e ∙ name_at agents a within))
+      (λ k h e. (s.sound a within).fresh k h (sym (get_or-names agents k (omega arith)) ∙ e ∙ get_or-names agents a within))
 
   sound : (name : List ℕ) (a : ℕ) → position (bytes_eq name) (names_of agents) ≡ Some a → a < length agents
   sound name a e = let p = position-Some (bytes_eq name) (names_of agents) a [] e in omega (arith, long, p.0)
@@ -128,7 +126,7 @@ agent_inverts agents single s = record { again = again; sound = sound; same = sa
   same name a e =
       let p = position-Some (bytes_eq name) (names_of agents) a [] e in
       let within : a < length agents = omega (arith, long, p.0) in
-      sym (name_at agents a within) ∙ sym (text_same name (get_or (names_of agents) a []) p.1)
+      sym (get_or-names agents a within) ∙ sym (text_same name (get_or (names_of agents) a []) p.1)
 
 -- the name of an agent is a name
 agent_is_name : (agents : List AgentData) (single : Bool) → AreSoundAgents agents single → (a : ℕ) → a < length agents → is_name (agent_at agents a).name ≡ true

@@ -5,14 +5,14 @@ use Rattle.std.proofs.lemmas.List.{ext_get_or, get_or_past}
 use Rattle.std.proofs.lemmas.List.FromFn.{get_or-map-range_with_len, length-map-range_with_len}
 use Rattle.sm_lists.specs.Rows.{row, entry, agents, place_of}
 use Rattle.sm_lists.proofs.Counting.{lt_or_le}
-use Rattle.sm_lists.proofs.PlaceLemmas.{entry-place_of, place_of-le}
+use Rattle.sm_lists.proofs.PlaceLemmas.{entry-place_of}
 use Rattle.sm_lists.proofs.RowLemmas.{row_in_range}
 use Rattle.sm_theory.specs.Rooms.{AreRoomLists, IsAcceptable, mate_of, place_of_mate, IsRoomMatching, RoomBlocks, IsRoomStable}
 use Rattle.sm_room_list.specs.RoomVectors.{room_rank, room_vector}
-use Rattle.sm_room_list.specs.Tops.{IsOpen, IsVectorWithin}
+use Rattle.sm_room_list.specs.Tops.{IsVectorWithin}
 use Rattle.sm_room_list.specs.Choices.{HasFirstOpen}
 use Rattle.sm_room_list.proofs.CutLemmas.{place_with, place_alone}
-use Rattle.sm_room_list.proofs.LowerLemmas.{own_place}
+use Rattle.sm_room.proofs.LeftLemmas.{place_of-entry}
 
 -- somebody, or nobody
 chosen_if : {P Q : Type 0} → P ⊎ Q → ℕ → Option ℕ
@@ -69,7 +69,7 @@ module _ {rows : List (List ℕ)} {ranks : List ℕ} (h : AreRoomLists rows) (fi
   -- the place of the mate is the first open one
   place_given : (x : ℕ) → (inside : x < length rows) → place_of_mate rows x (mate_of given x) ≡ (first x inside).place
   place_given x inside = elim (lt_or_le (first x inside).place (length (row rows x))) [
-    | inl on ↦ place_with rows given x _ (given_here x inside on) ∙ own_place h x (first x inside).place on
+    | inl on ↦ place_with rows given x _ (given_here x inside on) ∙ place_of-entry h x (first x inside).place on
     | inr past ↦ let le = (first x inside).on_list in let e = place_alone rows given x (given_none x inside past) in omega arith
   ]
 
@@ -88,7 +88,7 @@ module _ {rows : List (List ℕ)} {ranks : List ℕ} (h : AreRoomLists rows) (fi
       let a = o.0 in
       let inside : y < length rows = row_in_range rows y (place_of rows y x) a.returned in
       let back : IsAcceptable rows y x = record { apart = λ d. a.apart (sym d); listed = a.returned; returned = a.listed } in
-      let mine : place_of rows x y ≡ (first x g.inside).place = ap (place_of rows x) g.is ∙ own_place h x (first x g.inside).place g.on in
+      let mine : place_of rows x y ≡ (first x g.inside).place = ap (place_of rows x) g.is ∙ place_of-entry h x (first x g.inside).place g.on in
       let rank_x = (first x g.inside).rank in
       let rank_y = (first y inside).rank in
       let low : (place_of rows y x < (first y inside).place) → ⊥ = λ less. not_open y x inside back less (omega arith) in

@@ -1,19 +1,16 @@
 -- What is allowed at the seats is what is allowed in the instance: vectors, listings, and matchings that are least.
 use Rattle.std.proofs.Common.{◌≡◌, ℕ, ◌≤◌, Bool, List, Option, sym, ap, ◌∙◌, subst}
-use Rattle.std.specs.Prelude.{◌≤ℤ◌}
 use Rattle.sm_agents.specs.Written.{Written}
 use Rattle.sm_instance.specs.Stable.{IsStable as IsWrittenStable}
 use Rattle.sm_instance.specs.Allowed.{IsAllowed as IsWrittenAllowed}
-use Rattle.sm_instance.specs.Ranks.{rank_vector_of, regret_of as written_regret, weight_of as written_weight}
-use Rattle.sm_agents.specs.declared.kinds.Measure.{Measure}
+use Rattle.sm_instance.specs.Ranks.{rank_vector_of, regret_of as written_regret}
 use Rattle.sm_market.specs.Matching.{Places}
 use Rattle.sm_market.specs.Stable.{IsStable}
 use Rattle.sm_theory.specs.Vectors.{IsAllowed, IsAllowedVector}
-use Rattle.sm_theory.specs.Conditions.{IsLightestAllowed}
-use Rattle.sm_theory.specs.Weights.{weight_of, regret_of}
+use Rattle.sm_theory.specs.Weights.{regret_of}
 use Rattle.sm_theory.specs.Listings.{IsListing}
 use Rattle.sm_seats.specs.Seating.{Seating, written_of, levels_of}
-use Rattle.sm_seats.specs.Correspondence.{IsSeating, leveled, weights_of, worse_ranks_of}
+use Rattle.sm_seats.specs.Correspondence.{IsSeating, leveled, worse_ranks_of}
 use Rattle.sm_seats.specs.Vectors.{IsAllowedRankVector}
 
 -- a listing of what is in question lists what is in question by other words
@@ -68,17 +65,7 @@ module _ {w : Written} {s : Seating} (h : IsSeating w s) where
       → IsListing Before (IsAllowedRankVector w) cursor limit out more
   listing_written l = listing_alike vector_written vector_seated l
 
-  -- the lightest that is allowed at the seats is no heavier than any that is allowed in the instance
-  pub lightest_written : (by : Measure) (m : Places) → IsLightestAllowed s.market (levels_of s) (weights_of by w s) (leveled w w.forced) (leveled w w.forbidden) m
-      → (places : List (Option ℕ)) → IsWrittenStable w places → IsWrittenAllowed w places → written_weight by w (written_of s m.proposers) ≤ℤ written_weight by w places
-  lightest_written by m l places st a =
-      let n = allowed_seats st a in
-      let less : weight_of s.market (weights_of by w s) m ≤ℤ weight_of s.market (weights_of by w s) n.matching = l.lightest n.matching n.stable n.allowed in
-      let mine : weight_of s.market (weights_of by w s) m ≡ written_weight by w (written_of s m.proposers) = h.weights by m l.stable.matching in
-      let theirs : weight_of s.market (weights_of by w s) n.matching ≡ written_weight by w places = h.weights by n.matching n.stable.matching ∙ ap (written_weight by w) n.forgets in
-      subst (λ x. x ≤ℤ written_weight by w places) mine (subst (λ x. weight_of s.market (weights_of by w s) m ≤ℤ x) theirs less)
-
-  -- and the same of regrets
+  -- the least regret that is allowed at the seats is no greater than any that is allowed in the instance
   pub least_regret_written : (m : Places) → IsStable s.market m
       → ((n : Places) → IsStable s.market n → IsAllowedSeated w s n → regret_of s.market (worse_ranks_of w s) m ≤ regret_of s.market (worse_ranks_of w s) n)
       → (places : List (Option ℕ)) → IsWrittenStable w places → IsWrittenAllowed w places → written_regret w (written_of s m.proposers) ≤ written_regret w places

@@ -3,7 +3,7 @@ use Rattle.std.proofs.Common.{ℕ, ◌<◌, List, [], ◌++◌, length, Option, 
 use Rattle.std.specs.Io.KnownBytes.{Consumes}
 use Rattle.sm_io.specs.Source.{Takes}
 use Rattle.sm_io.specs.declared.Taken.TheVariants.{End}
-use Rattle.sm_serve.specs.Input.{Loses, Drains, IsReadWhole}
+use Rattle.sm_serve.specs.Input.{Loses, IsReadWhole}
 
 -- the end comes where nothing is left, since the buffer has room
 pub consumes_end : (a b c : Option (List ℕ)) (xs into : List ℕ) → 0 < length into → Consumes a b xs → Takes b c End into
@@ -25,7 +25,3 @@ loses_more None b c xs ys h k = record { given = xs; consumed = tt }
 loses_more (Some old) None c xs ys h k = absurd h
 loses_more (Some old) (Some bs) None xs ys h k = absurd k
 loses_more (Some old) (Some bs) (Some cs) xs ys h k = record { given = xs ++ ys; consumed = h ∙ ap (λ t. xs ++ t) k ∙ sym (append_assoc xs ys cs) }
-
--- and its count of faults stays
-pub drains_nothing : {S : Type 0} (left : S → Option (List ℕ)) (faults : S → ℕ) (x : S) → Drains left faults x x
-drains_nothing left faults x = record { lost = loses_nothing (left x); later = omega arith }

@@ -1,13 +1,11 @@
 -- From what was read and written to what a run promises.
 use Rattle.std.proofs.Common.{◌≡◌, ◌≤◌, ℕ, ◌<◌, ◌⊎◌, Bool, true, false, List, [], ◌∷◌, ◌++◌, length, Option, None, Some, Result, Ok, Err, inl, inr, refl, sym, ap, ◌∙◌, subst, length-append, append-nil, arith}
 use Rattle.std.specs.Result.{IfErr}
-use Rattle.std.proofs.lemmas.Bool.{lt-ltb}
 use Rattle.sm_io.specs.Source.{Agrees}
 use Rattle.sm_io.specs.Sink.{Grows}
 use Rattle.sm_io.proofs.SinkLemmas.{Grows-nil}
 use Rattle.sm_text.specs.Limits.{most_bytes}
 use Rattle.sm_text.specs.declared.refusal.RefusalKind.TheVariants.{TooLong, NotStable}
-use Rattle.sm_reader.specs.InstanceText.{instance_text}
 use Rattle.sm_words.specs.declared.jobs.Form.{Form}
 use Rattle.sm_serve.specs.declared.status.Status.{Status}
 use Rattle.sm_serve.specs.declared.status.Status.TheVariants.{Refused, Usage, OutOfMemory, ReadFault, WriteFault}
@@ -61,11 +59,6 @@ whole_agrees : (before after : Option (List ℕ)) (bytes : List ℕ) → ReadWho
 whole_agrees None after bytes w = tt
 whole_agrees (Some all) None bytes w = absurd w.given
 whole_agrees (Some all) (Some rest) bytes w = w.given ∙ ap (λ t. bytes ++ t) w.over ∙ append-nil bytes
-
--- an input that is too long is refused
-pub too_long_text : (bytes : List ℕ) → most_bytes < length bytes → instance_text bytes ≡ Err (TooLong, 0)
-unfolding instance_text
-too_long_text bytes long = rw (lt-ltb most_bytes (length bytes) long) refl
 
 -- the bytes that a source had, of which it gave too many
 record HadTooMany (left : Option (List ℕ)) : Type 0 where

@@ -11,7 +11,7 @@ use Rattle.sm_top.specs.Outcome.{IsRefusedIn, not_accepted}
 use Rattle.sm_top.specs.Accepting.{behind_text}
 use Rattle.sm_top.specs.Steps.{IsUngiven}
 use Rattle.sm_serve.specs.Texts.{RefusalData, plain_refusal}
-use Rattle.sm_serve.proofs.RunLemmas.{too_long_text}
+use Rattle.sm_reader.proofs.ReadingLemmas.{instance_text-too_long}
 
 -- of bytes that aren't too many the text is that of their value
 pub short_given : (bytes : List ℕ) → length bytes ≤ most_bytes → given_text Json bytes ≡ option_map_or Ok (text_in bytes) (Err (plain_refusal BadJson 0))
@@ -30,4 +30,4 @@ no_json bytes short none job reading =
 pub long_json : (bytes text : List ℕ) → length bytes ≤ most_bytes → text_in bytes ≡ Some text → most_bytes < length text → IsUngiven Json bytes (plain_refusal TooLong 0)
 long_json bytes text short is long job reading =
     subst (λ (t : Result (List ℕ) RefusalData). IsRefusedIn job t (plain_refusal TooLong 0)) (sym (json_given bytes text short is))
-    (not_accepted reading (record { kind = TooLong; at = 0; because = ap (behind_text job text) (too_long_text text long); says = refl }))
+    (not_accepted reading (record { kind = TooLong; at = 0; because = ap (behind_text job text) (instance_text-too_long text long); says = refl }))

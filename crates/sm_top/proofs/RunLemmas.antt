@@ -1,5 +1,5 @@
 -- From what was read and written to what a run promises.
-use Rattle.std.proofs.Common.{◌≡◌, ℕ, ◌<◌, ◌⊎◌, Bool, true, false, cond, List, [], ◌∷◌, length, Option, None, Some, Result, Ok, Err, inl, inr, refl, sym, ap, ◌∙◌, subst}
+use Rattle.std.proofs.Common.{◌≡◌, ℕ, ◌<◌, ◌⊎◌, Bool, true, false, cond, List, length, Option, None, Result, Ok, Err, inl, inr, refl, sym, ap, ◌∙◌, subst}
 use Rattle.std.specs.Option.{option_map_or}
 use Rattle.std.specs.Result.{IfErr}
 use Rattle.std.proofs.lemmas.Bool.{lt-ltb}
@@ -14,6 +14,7 @@ use Rattle.sm_instance.specs.declared.inputs.Input.TheVariants.{Two, Room}
 use Rattle.sm_agents.specs.declared.kinds.Measure.{Measure}
 use Rattle.sm_agents.specs.declared.kinds.Side.{Side}
 use Rattle.sm_reader.specs.InstanceText.{ReadText}
+use Rattle.sm_reader.proofs.ReadingLemmas.{instance_text-too_long}
 use Rattle.sm_report.specs.Lines.{LineData}
 use Rattle.sm_words.specs.declared.jobs.Form.{Form}
 use Rattle.sm_words.specs.declared.jobs.Form.TheVariants.{Text, Json}
@@ -37,7 +38,7 @@ use Rattle.sm_serve.specs.Running.{Runs, writes_all_lines, is_answer}
 use Rattle.sm_serve.specs.Steps.{Serves, IsRefusal, IsReadFault, IsServed}
 use Rattle.sm_serve.specs.Saying.{SaysStop}
 use Rattle.sm_serve.proofs.WritingLemmas.{wrote_for}
-use Rattle.sm_serve.proofs.RunLemmas.{AreWhole, stops_for, too_long_text, refused_too_long, refused_whole, serves_whole, bytes_of, agrees_of, runs_served, runs_stopped, runs_faulty, runs_unread, writes_all_or}
+use Rattle.sm_serve.proofs.RunLemmas.{AreWhole, stops_for, refused_too_long, refused_whole, serves_whole, bytes_of, agrees_of, runs_served, runs_stopped, runs_faulty, runs_unread, writes_all_or}
 use Rattle.sm_top.specs.Checked.{status_by}
 use Rattle.sm_top.specs.Accepting.{accepted, behind_text}
 use Rattle.sm_top.specs.Forms.{given_text, form_asked}
@@ -108,7 +109,7 @@ wrote_as {form} job bytes read found right given held faults a b status ok is =
 
 -- an input that is too long is refused in each form
 too_long_given : (form : Form) (job : JobData) → reads_input job ≡ true → (bytes : List ℕ) (refusal : RefusalData) → most_bytes < length bytes → refusal ≡ plain_refusal TooLong 0 → IsRefusedFrom job form bytes refusal
-too_long_given Text job reading bytes refusal long says = not_accepted reading (record { kind = TooLong; at = 0; because = ap (behind_text job bytes) (too_long_text bytes long); says = says })
+too_long_given Text job reading bytes refusal long says = not_accepted reading (record { kind = TooLong; at = 0; because = ap (behind_text job bytes) (instance_text-too_long bytes long); says = says })
 too_long_given Json job reading bytes refusal long says =
     subst (λ (t : Result (List ℕ) RefusalData). IsRefusedIn job t refusal) (sym (ap (λ t. cond t (Err (plain_refusal TooLong 0)) (option_map_or Ok (text_in bytes) (Err (plain_refusal BadJson 0)))) (lt-ltb most_bytes (length bytes) long))) says
 

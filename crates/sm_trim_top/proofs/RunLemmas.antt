@@ -21,17 +21,18 @@ use Rattle.sm_serve.specs.Steps.{Serves, IsRefusal, IsReadFault}
 use Rattle.sm_serve.specs.Stops.{StopsBy}
 use Rattle.sm_serve.specs.Texts.{RefusalData, plain_refusal}
 use Rattle.sm_serve.specs.Wrote.{Wrote, With}
-use Rattle.sm_serve.proofs.RunLemmas.{AreWhole, too_long_text, refused_too_long, refused_whole, serves_whole, runs_served, runs_stopped, runs_faulty, writes_all_or}
+use Rattle.sm_serve.proofs.RunLemmas.{AreWhole, refused_too_long, refused_whole, serves_whole, runs_served, runs_stopped, runs_faulty, writes_all_or}
 use Rattle.sm_serve.proofs.WritingLemmas.{wrote_for}
 use Rattle.sm_trim_top.specs.Running.{has_no_words, Outcome, faulty_words, refused, trimmed, Trims, TrimsTaken}
 use Rattle.sm_trim_top.specs.Trimmed.{IsTrimmedInput, IsRightText, IsRefused, untaken}
 use Rattle.sm_trim_top.proofs.TakingLemmas.{text_untaken}
+use Rattle.sm_reader.proofs.ReadingLemmas.{instance_text-too_long}
 
 -- What was read.
 
 -- an input that is too long is refused
 too_long : (bytes : List ℕ) (refusal : RefusalData) → most_bytes < length bytes → refusal ≡ plain_refusal TooLong 0 → IsRefused bytes refusal
-too_long bytes refusal long says = subst (IsRefused bytes) (sym says) (untaken (text_untaken bytes TooLong 0 (too_long_text bytes long)))
+too_long bytes refusal long says = subst (IsRefused bytes) (sym says) (untaken (text_untaken bytes TooLong 0 (instance_text-too_long bytes long)))
 
 pub read_too_long : (before after : Option (List ℕ)) (refusal : RefusalData) → IsTooLong before after refusal → IsRefusal true IsRefused before after refusal
 read_too_long = refused_too_long true IsRefused too_long

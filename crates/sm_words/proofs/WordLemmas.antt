@@ -1,6 +1,6 @@
 -- The words, tried from the left.
-use Rattle.std.proofs.Common.{◌≡◌, ℕ, suc, ◌+◌, ◌<◌, Bool, true, false, cond, List, ◌∷◌, length, drop, get_or, Some, Err, String, string_bytes, sym, ap, ◌∙◌, ◌-◌, ◌≤◌, take, add-one, drop-cons, length-drop, arith, [], ◌++◌, None, Ok, refl, subst, append_assoc, append-nil}
-use Rattle.std.proofs.lemmas.List.{take_all, drop_all, length-append}
+use Rattle.std.proofs.Common.{◌≡◌, ℕ, suc, ◌+◌, ◌<◌, Bool, true, false, cond, List, ◌∷◌, length, drop, get_or, Some, Err, String, string_bytes, sym, ap, ◌∙◌, ◌-◌, ◌≤◌, take, add-one, drop-cons, length-drop, arith, [], ◌++◌, None, refl, subst, append_assoc}
+use Rattle.std.proofs.lemmas.List.{take_all, length-append}
 use Rattle.std.proofs.lemmas.Option.{none-some, same_Some}
 use Rattle.std.specs.List.{list_all}
 use Rattle.std.specs.Option.{option_map_or}
@@ -10,7 +10,7 @@ use Rattle.sm_words.specs.declared.operands.Command.{Command}
 use Rattle.sm_words.specs.Tables.{commands}
 use Rattle.sm_words.specs.Operands.{is_operand, may_follow}
 use Rattle.sm_words.specs.Words.{right_words, asked, words_meaning, texts}
-use Rattle.sm_words.specs.Kept.{GivenData, with_word, kept_of, AreKept}
+use Rattle.sm_words.specs.Kept.{GivenData, with_word, kept_of}
 use Rattle.sm_words.proofs.KeptLemmas.{word_taken, follows}
 
 texts_from : (words : List (String Global)) (i : ℕ) (w : String Global) → i < length words → w ≡ get_or words i w → texts (drop i words) ≡ string_bytes w ∷ texts (drop (i + 1) words)
@@ -25,16 +25,6 @@ pub record IsTrying (command : Command) (number : ℕ) (given : GivenData) (rest
   pub operands : list_all (is_operand command) before ≡ true
   pub kept : given ≡ kept_of before
   pub so_far : right_words command before rest ≡ right_words command [] all
-
--- at first
-pub trying_first : (command : Command) (given : GivenData) (all : List (List ℕ)) → given ≡ kept_of [] → IsTrying command 2 given all all
-trying_first command given all is = record { before = []; splits = refl; numbered = refl; operands = refl; kept = is; so_far = refl }
-
--- behind all words
-trying_last : (command : Command) (number : ℕ) (given : GivenData) (all : List (List ℕ)) → IsTrying command number given [] all → AreKept command all given
-trying_last command number given all t =
-    let same : t.before ≡ all = sym (append-nil t.before) ∙ t.splits in
-    record { right = sym t.so_far ∙ ap Ok same; kept = t.kept ∙ ap kept_of same }
 
 -- two answers about a word are one
 same_answer : {X : Type 0} (a b : Bool) (x y : X) → cond a (Some x) None ≡ cond b (Some y) None → a ≡ b
@@ -86,9 +76,6 @@ module _ (command : Command) (number : ℕ) (g g' : GivenData) (words : List (St
 
   pub loop_stopped : fits ≡ false → right_words command [] (texts words) ≡ Err number
   loop_stopped = trying_stopped command number g g' text rest (texts words) fits trying took
-
-pub loop_ended : (command : Command) (number : ℕ) (g : GivenData) (words : List (String Global)) (i : ℕ) → IsTrying command number g (texts (drop i words)) (texts words) → length words ≤ i → AreKept command (texts words) g
-loop_ended command number g words i t past = trying_last command number g (texts words) (subst (λ ws. IsTrying command number g (texts ws) (texts words)) (drop_all i words past) t)
 
 -- the words behind the first, as a slice pattern gives them
 abbrev pub others : List (String Global) → List (String Global)

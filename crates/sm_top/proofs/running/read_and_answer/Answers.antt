@@ -2,7 +2,6 @@ use Rattle.std.proofs.Common.{refl}
 use Rattle.std.proofs.lemmas.Result.{err_from_is_err_and}
 use Rattle.sm_words.specs.Jobs.{job_of}
 use Rattle.sm_serve.proofs.RunLemmas.{stops_for}
-use Rattle.sm_serve.specs.Steps.{IsReadFault}
 use Rattle.sm_top.proofs.RunLemmas.{read_too_long, read_ungiven, served_given}
 use Rattle.sm_top.proofs.running.read_and_answer.Goals as goal
 

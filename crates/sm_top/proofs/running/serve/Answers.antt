@@ -1,7 +1,6 @@
 use Rattle.std.proofs.Common.{◌≡◌, None, sym, subst}
 use Rattle.sm_instance.specs.declared.inputs.Input.{Input}
 use Rattle.sm_serve.specs.Refusals.{too_many_in}
-use Rattle.sm_serve.proofs.InputLemmas.{drains_nothing}
 use Rattle.sm_top.proofs.MadeLemmas.{made_has_few_seats}
 use Rattle.sm_top.proofs.RunLemmas.{served_made}
 use Rattle.sm_top.proofs.running.serve.Goals as goal
