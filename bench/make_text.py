@@ -9,6 +9,7 @@
     python3 bench/make_text.py copies SIZE
     python3 bench/make_text.py opposed BLOCKS SIZE
     python3 bench/make_text.py late CHAIN FREE
+    python3 bench/make_text.py waiting SIZE OTHERS
     python3 bench/make_text.py roommates PERSONS [SEED]
     python3 bench/make_text.py turning SIZE
     python3 bench/make_text.py doubled SIZE
@@ -25,6 +26,8 @@ the reviewer r(k) lists p(k+1), p(k+2) and so on around: each turn is one rotati
 side by side. `copies` has SIZE
 copies of the two by two instance with two stable matchings. `opposed` has BLOCKS cycles of SIZE agents, with the
 proposers' and the reviewers' numbers mixed. `late` has a chain of rotations of which each needs the one below it in the text.
+`waiting` has very many stable matchings, of SIZE agents on each side (Irving and Leather 1986), behind OTHERS whose next reviewer is
+one of these; SIZE is a power of two.
 
 Four kinds are roommates: `roommates` has complete lists in random order. `turning` has the persons of a cycle, of SIZE on each
 side. `doubled` has as many with very many stable matchings (Irving and Leather 1986); SIZE is a power of two. `fours` has
@@ -116,6 +119,14 @@ def late(chain, free):
     return marriage(proposers, reviewers)
 
 
+def waiting(size, others):
+    gray = [t ^ t >> 1 for t in range(size)]
+    proposers = [[i, others] for i in range(others)] + [[others + (p ^ x) for x in gray] for p in range(size)]
+    reviewers = [[i] for i in range(others)] + [[others + (r ^ x) for x in reversed(gray)] for r in range(size)]
+    reviewers[others][1:1] = range(others)
+    return marriage(proposers, reviewers)
+
+
 def persons(rows):
     return ["stable 1 roommates"] + ["p x%d: %s" % (x, " ".join("x%d" % y for y in row)) for x, row in enumerate(rows)] + ["end"]
 
@@ -173,6 +184,8 @@ def main(words):
         return cycles(*map(int, words[1:]))
     if words[:1] == ["late"] and len(words) == 3:
         return late(int(words[1]), int(words[2]))
+    if words[:1] == ["waiting"] and len(words) == 3:
+        return waiting(int(words[1]), int(words[2]))
     if words[:1] == ["copies"] and len(words) == 2:
         return copies(int(words[1]))
     if words[:1] == ["opposed"] and len(words) == 3:
