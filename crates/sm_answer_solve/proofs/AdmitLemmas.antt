@@ -1,11 +1,10 @@
 -- Proposals over the written lists, one by one, beside the same proposals in the market of seats.
-use Rattle.std.proofs.Common.{◌≡◌, ◌≢◌, ℕ, ◌+◌, ◌-◌, ◌*◌, ◌<◌, ◌≤◌, ◌++◌, ◌∷◌, ◌⊎◌, [], List, true, false, length, take, map, get_or, set, replicate, refl, sym, ap, subst, ◌∙◌, append-nil, arith, inl, inr, lt-ltb, le-ltb, Fits, w32}
-use Rattle.std.specs.List.{flat_map, filter, range_with_len, sum_by}
+use Rattle.std.proofs.Common.{◌≡◌, ◌≢◌, ℕ, ◌+◌, ◌-◌, ◌<◌, ◌≤◌, ◌++◌, ◌∷◌, ◌⊎◌, [], List, true, false, length, take, map, get_or, set, replicate, refl, sym, ap, subst, ◌∙◌, append-nil, arith, inl, inr, lt-ltb, le-ltb, Fits, w32}
+use Rattle.std.specs.List.{flat_map, filter, range_with_len}
 use Rattle.sm_text.specs.Limits.{most_agents}
 use Rattle.std.proofs.lemmas.Bool.{cases_lt, cases_eq}
-use Rattle.std.proofs.lemmas.List.{get_or_past, get_or-replicate, length-replicate, get_or-set_same, get_or-set_other, length-set, length-append, take_all, get_or_default}
+use Rattle.std.proofs.lemmas.List.{get_or_past, length-replicate, get_or-set_same, get_or-set_other, length-set, length-append, take_all}
 use Rattle.std.proofs.lemmas.List.Concat.{flat_map-append}
-use Rattle.std.proofs.lemmas.List.Sums.{sum_by-set, sum_by-le}
 use Rattle.std.proofs.lemmas.List.FromFn.{get_or-map-range_with_len, length-map-range_with_len, length-range_with_len}
 use Rattle.sm_lists.specs.Rows.{place_on}
 use Rattle.sm_lists.proofs.PlaceLemmas.{entry-place_of, get_or-place_on}
@@ -27,13 +26,8 @@ use Rattle.sm_seats.proofs.SeatLemmas.{IsSeatOf, one_reviewer, one_number, seat_
 use Rattle.sm_seats.proofs.SeatPlaces.{row_is, first_place, IsPlaced, placed}
 use Rattle.sm_seats.proofs.MarketLaws.{length-proposers, place_of-seat_market, length-list, is_market}
 use Rattle.sm_seats.proofs.TableLemmas.{begin_of-first_place}
+use Rattle.sm_answer_solve.proofs.LeftLemmas.{zeros, left, one_less}
 use Rattle.sm_answer_solve.specs.Admitting.{IsFree, IsHolding, IsSeated, IsAtEnd, IsUnderWay, IsArriving, IsProposing, IsTurnedAway, AreFreeSeats}
-
-zeros : (n p : ℕ) → let zero : ℕ = 0 in get_or (replicate n zero) p zero ≡ zero
-zeros n p =
-    let zero : ℕ = 0 in
-    let long = length-replicate n zero in
-    elim (cases_lt p n) [ inl l ↦ get_or-replicate n p zero zero l | inr l ↦ get_or_past (replicate n zero) p zero (omega arith) ]
 
 -- How many seats are listed before a place.
 
@@ -423,12 +417,6 @@ module _ {w : Written} (h : HasSoundEntries w) where
         let R : ℕ → Type 0 = λ n. IsProposing w b r n (entry w.reviewers r (get_or standings (seats_before w r + (seat - from)) 0)) (get_or standings (seats_before w r + (seat - from)) 0) places (set standings (seats_before w r + (seat - from)) place) in
         subst Q seat_is (λ less held. subst R next_number (seat_takes_for a number_below less held))
 
--- How many places are left.
-
--- so many places of the written lists are left at most, all in all
-abbrev pub left : List ℕ → ℕ
-left places = length places * most_agents - sum_by (λ i. i) places
-
 module _ {w : Written} (i : IsInstance w) where
   -- nobody is further than the longest list allows
   place-le : {b q : ℕ} {places standings : List ℕ} → IsArriving w b q places standings → (p : ℕ) → get_or places p 0 ≤ most_agents
@@ -446,14 +434,8 @@ module _ {w : Written} (i : IsInstance w) where
   -- whoever is turned away leaves fewer
   pub left_falls : {b q : ℕ} {before places standings : List ℕ} → IsTurnedAway w b q before places standings → left places < left before
   left_falls {b} {q} {before} {places} {standings} t =
-      let n : ℕ = get_or before q 0 in
-      let long : length places ≡ length before = ap length t.moved ∙ length-set before q (n + 1) in
-      let there : q < length before = omega (arith, row_in_range w.proposers q n t.on_list, t.arriving.way.proposers_each, long) in
-      let more = ap (sum_by (λ (x : ℕ). x)) t.moved in
-      let one = sum_by-set (λ (x : ℕ). x) before q (n + 1) 0 there in
-      let few = sum_by-le (λ (x : ℕ). x) most_agents places (λ k d l. let same = get_or_default places k d 0 l in omega (arith, same, place-le t.arriving k)) in
-      let e = ap (λ x. x * most_agents) long in
-      omega (arith, more, one, few, e)
+      let there : q < length before = omega (arith, row_in_range w.proposers q (get_or before q 0) t.on_list, t.arriving.way.proposers_each, ap length t.moved, length-set before q (get_or before q 0 + 1)) in
+      subst (λ xs. left xs < left before) (sym t.moved) (one_less before q there (λ k. subst (λ xs. get_or xs k 0 ≤ most_agents) t.moved (place-le t.arriving k)))
 
   -- a place fits, and so does the next one
   pub next_fits : {b q : ℕ} {places standings : List ℕ} → IsUnderWay w b q places standings → get_or places q 0 < length (row w.proposers q) → Fits w32 (get_or places q 0 + 1)

@@ -1,5 +1,5 @@
 -- Where the proposals end.
-use Rattle.std.proofs.Common.{◌≡◌, ℕ, ◌+◌, ◌<◌, ◌≤◌, List, Option, Some, None, cond, length, map, get_or, refl, sym, ap, subst, ◌∙◌, arith, inl, inr, lt-ltb, le-ltb}
+use Rattle.std.proofs.Common.{◌≡◌, ℕ, ◌+◌, ◌<◌, ◌≤◌, List, Option, Some, length, map, get_or, refl, sym, ap, subst, ◌∙◌, arith, inl, inr}
 use Rattle.std.specs.List.{range_with_len}
 use Rattle.std.specs.Option.{option_map}
 use Rattle.std.proofs.lemmas.Bool.{cases_lt}
@@ -29,14 +29,10 @@ use Rattle.sm_seats.proofs.WrittenLemmas.{written_place-seating}
 use Rattle.sm_seats.proofs.CrossRows.{map_same}
 use Rattle.sm_seats.proofs.CorrespondenceLaws.{sound_entries, is_seating}
 use Rattle.sm_seats.proofs.SeatingLaws.{proposers_best}
-use Rattle.sm_answer_solve.specs.Admitting.{IsUnderWay, end_at, ended_places}
+use Rattle.sm_answer_solve.specs.Ends.{end_at, ended_places}
+use Rattle.sm_answer_solve.specs.Admitting.{IsUnderWay}
+use Rattle.sm_answer_solve.proofs.EndPlaces.{ended_on, ended_past}
 use Rattle.sm_answer_solve.proofs.AdmitLemmas.{listed_all}
-
-ended_on : (len place : ℕ) → place < len → end_at len place ≡ Some place
-ended_on len place lt = ap (λ b. cond b (Some place) None) (lt-ltb place len lt)
-
-ended_past : (len place : ℕ) → len ≤ place → end_at len place ≡ None
-ended_past len place le = ap (λ b. cond b (Some place) None) (le-ltb place len le)
 
 ends_there : (len next : ℕ) → EndsAt len next (end_at len next)
 ends_there len next = elim (cases_lt next len) [

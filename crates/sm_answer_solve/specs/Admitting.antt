@@ -1,6 +1,5 @@
 -- How far the proposals over the written lists have come, beside how far they would be in the market of seats.
-use Rattle.std.specs.Prelude.{◌≡◌, ◌≢◌, ℕ, ◌+◌, ◌<◌, ◌≤◌, ◌⊎◌, List, Option, Some, None, map, length, slice_index, slice_set, cond, nat_lt}
-use Rattle.std.specs.List.{range_with_len}
+use Rattle.std.specs.Prelude.{◌≡◌, ◌≢◌, ℕ, ◌+◌, ◌<◌, ◌≤◌, ◌⊎◌, List, length, slice_index, slice_set}
 use Rattle.sm_lists.specs.Rows.{place_on}
 use Rattle.sm_agents.specs.Written.{Written, row, entry, place_of, IsAcceptable}
 use Rattle.sm_accept.specs.Accepting.{IsProgress}
@@ -89,11 +88,3 @@ pub record IsTurnedAway (w : Written) (begun away : ℕ) (before places standing
 pub record AreFreeSeats (w : Written) (standings : List ℕ) : Type 0 where
   pub one_each : length standings ≡ seats_before w (length w.reviewers)
   pub free : (r k : ℕ) → k < seat_count w r → slice_index standings (seats_before w r + k) ≡ length (row w.reviewers r)
-
--- where a proposer ends that has come to a place of a list of this length
-abbrev pub end_at : ℕ → ℕ → Option ℕ
-end_at len place = cond (nat_lt place len) (Some place) None
-
--- where all of them end
-abbrev pub ended_places : Written → List ℕ → List (Option ℕ)
-ended_places w places = map (λ p. end_at (length (row w.proposers p)) (slice_index places p)) (range_with_len 0 (length w.proposers))

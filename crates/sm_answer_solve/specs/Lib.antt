@@ -1,3 +1,5 @@
 pub mod Solution
+pub mod Ends
 pub mod Admitting
+pub mod Offering
 pub mod SolutionGiven

@@ -10,8 +10,9 @@ ghost use Rattle.sm_agents.specs.Sound.{IsInstance};
 ghost use Rattle.sm_instance.specs.Stable.{IsBestOf};
 ghost use Rattle.sm_agents.specs.declared.kinds.Side.{Side};
 ghost use Rattle.sm_seats.specs.Counted.{AreSeatCounts, first_seats_of};
-ghost use Rattle.sm_answer_solve.specs.Admitting.{AreFreeSeats, IsUnderWay, IsProposed, IsProposing, IsTurnedAway, end_at, ended_places};
+ghost use Rattle.sm_answer_solve.specs.Admitting.{AreFreeSeats, IsUnderWay, IsProposed, IsProposing, IsTurnedAway};
 
+use crate::ending::ends;
 use crate::proposals::{Proposal, Proposals};
 use crate::seat_holders::free_seats;
 use sm_instance::{Assignment, Instance};
@@ -140,23 +141,4 @@ fn propose(
     }
     places[away as usize] += 1;
     Some(away)
-}
-
-/// Where the proposers end: at the places of their written lists to which they have come, and unmatched behind these.
-fn ends(alloc: Global, instance: &Instance, places: &[u32]) -> Result<Vec<Option<u32>>, AllocError>
-    requires { length places.now ≡ length instance.now.proposers }
-    ensures { IfOk result (λ ends. ends.items ≡ ended_places instance.now places.now) }
-{
-    let mut ends = Vec::with_capacity(alloc, places.len())?;
-    for p in 0..instance.proposer_count() {
-        ends.push(end_at(instance.proposer_len(p), places[p as usize]))?;
-    }
-    Ok(ends)
-}
-
-/// Where a proposer ends that has come to a place of a list of this length.
-fn end_at(len: u32, place: u32) -> Option<u32>
-    ensures { result ≡ end_at len place }
-{
-    if place < len { Some(place) } else { None }
 }

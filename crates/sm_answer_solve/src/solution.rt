@@ -3,18 +3,18 @@
 ghost use Rattle.std.specs.Prelude.{◌≡◌, ℕ, List, IfOk, unwrap_or};
 ghost use Rattle.sm_answer.specs.Giving.{HasRest};
 ghost use Rattle.sm_answer.specs.Printing.{IsShown};
-ghost use Rattle.sm_instance.specs.Stable.{IsBestOf, IsReviewersBest};
+ghost use Rattle.sm_instance.specs.Stable.{IsBestOf};
 ghost use Rattle.sm_instance.specs.declared.inputs.Input.TheVariants.{Two};
 ghost use Rattle.sm_seats.specs.Counted.{AreSeatCounts};
 ghost use Rattle.sm_seats.specs.SeatEntries.{AreFewSeats};
 ghost use Rattle.sm_answer_solve.specs.Solution.{IsSolution};
 
 use crate::admitting::proposers_best;
-use sm_accept::reviewer_best;
+use crate::offering::reviewers_best;
 use sm_answer::{Each, Lines, MatchingLines, One, PairWord, Printed, Then};
 use sm_instance::{Assignment, Input, Instance, Side};
 use sm_report::{Head, Line};
-use sm_seats::{SeatCounts, Seats};
+use sm_seats::SeatCounts;
 use std::alloc::{AllocError, Global};
 
 /// The best stable matching of a side.
@@ -25,11 +25,12 @@ pub struct Solution {
 }
 
 /// The best stable matching of a side, of the proposers where no side is named (Gale and Shapley 1962; Gusfield and Irving
-/// 1989, section 1.6.3). The counts have to be those of the instance, of few enough seats.
+/// 1989, sections 1.6.2 and 1.6.3). The counts have to be those of the instance, of few enough seats.
 ///
 /// For the proposers it takes time in proportion to the entries of the instance and to the proposals to seats, and memory in
-/// proportion to the proposers and seats, with that for the cross places of the instance where looking for single ones would
-/// take longer; for the reviewers time and memory linear in the entries of the seats' market.
+/// proportion to the proposers and seats; for the reviewers time in proportion to the agents and entries of the instance, and
+/// memory in proportion to its agents. To both comes what the cross places of the instance take, where looking for single ones
+/// would take longer.
 ///
 /// # Errors
 ///
@@ -58,29 +59,13 @@ fn best_of(
     counts: &SeatCounts,
     side: Side,
 ) -> Result<Assignment, AllocError>
-    requires counts { AreSeatCounts instance.now counts.now }
-    requires few { AreFewSeats instance.now }
+    requires { AreSeatCounts instance.now counts.now }
     ensures { IfOk result (λ best. IsBestOf side instance.now best.places.items) }
 {
     match side {
         Side::Proposers => proposers_best(alloc, instance, counts),
-        Side::Reviewers => reviewers_best(alloc, instance, counts),
+        Side::Reviewers => reviewers_best(alloc, instance),
     }
-}
-
-/// The reviewers' best stable matching, by way of the market of seats.
-fn reviewers_best(
-    alloc: Global,
-    instance: &Instance,
-    counts: &SeatCounts,
-) -> Result<Assignment, AllocError>
-    requires counts { AreSeatCounts instance.now counts.now }
-    requires few { AreFewSeats instance.now }
-    ensures { IfOk result (λ best. IsReviewersBest instance.now best.places.items) }
-{
-    let seats = Seats::counted(alloc, instance, counts)?;
-    let best = reviewer_best(alloc, seats.market())?;
-    seats.to_hospitals(alloc, &best)
 }
 
 /// The lines of the answer of `solve`.

@@ -1,6 +1,6 @@
 use Rattle.std.proofs.Common.{◌≡◌, ◌+◌}
 use Rattle.sm_answer_solve.specs.Admitting.{IsArriving}
-use Rattle.sm_answer_solve.proofs.AdmitLemmas.{left}
+use Rattle.sm_answer_solve.proofs.LeftLemmas.{left}
 use Rattle.sm_answer_solve.proofs.admitting.let_propose.Given as goal
 
 abbrev pub invariant-proposals : goal.invariant-proposals

@@ -2,8 +2,6 @@ use Rattle.std.proofs.Common.{◌≡◌, ℕ, ◌+◌, length, replicate, rules,
 use Rattle.std.proofs.lemmas.List.FromFn.{length-map-range_with_len}
 use Rattle.sm_instance.specs.Stable.{IsProposersBest}
 use Rattle.sm_seats.specs.SeatMarket.{seats_before}
-use Rattle.sm_seats.proofs.CorrespondenceLaws.{sound_entries}
-use Rattle.sm_answer_solve.proofs.AdmitLemmas.{way_start}
 use Rattle.sm_answer_solve.proofs.EndLemmas.{best_ends}
 use Rattle.sm_answer_solve.proofs.admitting.proposers_best.Goals as goal
 

@@ -1,8 +1,8 @@
 use Rattle.std.proofs.Common.{◌≡◌, ℕ, ◌+◌, [], Option, length, get_or, ap, ◌∙◌, arith}
 use Rattle.sm_seats.proofs.RowLemmas.{map_pushed}
 use Rattle.sm_agents.specs.Written.{row}
-use Rattle.sm_answer_solve.specs.Admitting.{end_at}
-use Rattle.sm_answer_solve.proofs.admitting.ends.Goals as goal
+use Rattle.sm_answer_solve.specs.Ends.{end_at}
+use Rattle.sm_answer_solve.proofs.ending.ends.Goals as goal
 
 pub loop-p-preserved : goal.loop-p-preserved
 loop-p-preserved c =
