@@ -7,16 +7,17 @@ use Rattle.sm_answer.specs.Lines.{lines_from}
 use Rattle.sm_answer.proofs.AnswerLemmas.{lines_from-same}
 use Rattle.sm_agents.specs.Written.{Written}
 use Rattle.sm_agents.specs.Sound.{IsInstance}
-use Rattle.sm_instance.specs.Ranks.{weight_of as written_weight, second_of}
+use Rattle.sm_instance.specs.Ranks.{pair_weight, weight_of as written_weight, second_of}
 use Rattle.sm_agents.specs.declared.kinds.Measure.{Measure}
 use Rattle.sm_agents.specs.declared.kinds.Side.TheVariants.{Proposers}
 use Rattle.sm_market.specs.Lists.{Lists, agents}
 use Rattle.sm_market.specs.Matching.{Places}
 use Rattle.sm_report.specs.Heads.{HeadData}
 use Rattle.sm_report.specs.Lines.{LineData}
-use Rattle.sm_theory.specs.Chains.{IsPrintedChain, AreNeeds}
+use Rattle.sm_theory.specs.Chains.{rotation_at, IsPrintedChain, AreNeeds}
 use Rattle.sm_theory.specs.Weights.{gain_of}
-use Rattle.sm_theory.specs.Conditions.{net_of}
+use Rattle.sm_theory.specs.SecondNets.{second_net_of}
+use Rattle.sm_theory.proofs.Bridge.Chain.{stage_stable}
 use Rattle.sm_poset.specs.Posets.{RotationPoset, IsPoset, poset_of}
 use Rattle.sm_seats.specs.SeatMarket.{seat_market}
 use Rattle.sm_seats.specs.Seating.{Seating, seating_of, written_of, levels_of}
@@ -24,10 +25,12 @@ use Rattle.sm_seats.specs.Correspondence.{IsSeating, leveled, weights_of}
 use Rattle.sm_seats.specs.Levels.{has_two_levels, pair_second_by, seconds_by}
 use Rattle.sm_seats.proofs.LevelLemmas.{none_second}
 use Rattle.sm_seats.proofs.SecondLemmas.{read_zero, gain_none, lightest_by_both}
+use Rattle.sm_seats.specs.ShownNet.{gain_shown, second_gain_shown}
+use Rattle.sm_seats.proofs.GainLemmas.{IsOnLists, exposed_on_lists, gain_at_is, second_gain_at_is}
 use Rattle.sm_seats.proofs.ShownNetLemmas.{net_is_shown, second_net_is_shown}
 use Rattle.sm_theory.specs.declared.flow_lines.FlowLine.{FlowLine}
 use Rattle.sm_weight.specs.Lightest.{IsFullFlow, AreFullFlows, AreZero, IsOfOneLevel, IsLightestFound, set_matching}
-use Rattle.sm_theory.specs.Net.{Net, cut_of}
+use Rattle.sm_theory.specs.Net.{Net}
 use Rattle.sm_theory.specs.Flows.{flow_value}
 use Rattle.sm_theory.specs.FlowLines.{amount_on}
 use Rattle.sm_answer.specs.MatchingLines.{pair_line}
@@ -38,7 +41,7 @@ use Rattle.sm_answer_rotations.specs.GivenLines.{two_lines}
 use Rattle.sm_answer_rotations.proofs.ShownLemmas.{matching_is}
 use Rattle.sm_answer_rotations.proofs.PairLemmas.{pair_alike}
 use Rattle.sm_answer_rotations.proofs.RotationLemmas.{flat_map_alike, lines_shown, first_shown}
-use Rattle.sm_answer_weight.specs.WeightAnswer.{FillsCut, AreCertificates, gain_in, second_gain_in, in_two, WeightParts, net_in, second_net_in, matching_in, gained_lines, second_flow_line, second_figures, weight_lines, IsWeightAnswer}
+use Rattle.sm_answer_weight.specs.WeightAnswer.{FillsCut, AreCertificates, in_two, WeightParts, net_in, second_net_in, matching_in, gained_lines, second_flow_line, second_figures, weight_lines, IsWeightAnswer}
 use Rattle.sm_instance.specs.Lightest.{IsLightestByBoth}
 use Rattle.sm_answer_weight.specs.Found.{IsLightestOfSeats}
 use Rattle.sm_answer_weight.specs.Given.{row_lines, rows_found, edge_line, second_gain_line, weight_given}
@@ -50,16 +53,21 @@ use Rattle.sm_answer_weight.proofs.LineLemmas.{figures_are, given_sound}
 
 -- the lines of a rotation
 pub gained_shown : (by : Measure) (w : Written) (parts : WeightParts) (k : ℕ) → gained_lines by w parts k
-    ≡ two_lines (seating_of w) parts.rotations parts.needs k ++ LineData.Gain (k + 1) (gain_in by w parts k)
-    ∷ in_two (has_two_levels by w) (LineData.SecondGain (k + 1) (second_gain_in by w parts k) ∷ [])
+    ≡ two_lines (seating_of w) parts.rotations parts.needs k ++ LineData.Gain (k + 1) (gain_shown by w parts.rotations k)
+    ∷ in_two (has_two_levels by w) (LineData.SecondGain (k + 1) (second_gain_shown w parts.rotations k) ∷ [])
 gained_shown by w parts k =
-    ap (λ (t : List LineData). t ++ LineData.Gain (k + 1) (gain_in by w parts k) ∷ in_two (has_two_levels by w) (LineData.SecondGain (k + 1) (second_gain_in by w parts k) ∷ []))
+    ap (λ (t : List LineData). t ++ LineData.Gain (k + 1) (gain_shown by w parts.rotations k) ∷ in_two (has_two_levels by w) (LineData.SecondGain (k + 1) (second_gain_shown w parts.rotations k) ∷ []))
     (sym (lines_shown (seating_of w) parts.first parts.rotations parts.needs k))
 
 -- in one level there are no lines of a second flow
 flow_in_two : (two : Bool) (sink : ℕ) (flow : List FlowLine) → (two ≡ false → flow ≡ []) → map (second_flow_line sink) flow ≡ in_two two (map (second_flow_line sink) flow)
 flow_in_two true sink flow none = refl
 flow_in_two false sink flow none = ap (map (second_flow_line sink)) (none refl)
+
+-- and lines that are the same in two levels are so in either case
+of_two : (lines others : List LineData) (two : Bool) → (two ≡ true → lines ≡ others) → in_two two lines ≡ in_two two others
+of_two lines others true same = same refl
+of_two lines others false same = refl
 
 -- the whole of parts
 abbrev glued : LineData → (firsts rows flow second : List LineData) → (taken value cut total : LineData) → (figures pairs : List LineData) → List LineData
@@ -98,14 +106,35 @@ module _ {w : Written} (h : IsSeating w (seating_of w)) (found : Lightest) (f : 
   printed_there : IsPrintedChain (seat_market w) found.poset.first.places found.poset.rotations
   printed_there = subst (λ (q : RotationPoset). IsPrintedChain q.lists q.first.places q.rotations) same_poset p.printed
 
+  -- the gains are those that are shown
+  on_lists : (k : ℕ) → k < length found.poset.rotations → IsOnLists (seat_market w) (rotation_at found.poset.rotations k)
+  on_lists k here = exposed_on_lists (stage_stable h.market printed_there.chain k (omega arith)).matching (printed_there.chain.exposed k here)
+
+  gain_there : (k : ℕ) → k < length found.poset.rotations → slice_index_or found.in_market.gains.items k (pos 0) ≡ gain_shown found.by w found.poset.rotations k
+  gain_there k here =
+      let s = seating_of w in
+      let rotations = found.poset.rotations in
+      ap (λ (xs : List ℤ). slice_index_or xs k (pos 0)) lightest_there.gains ∙ get_or-map (gain_of (seat_market w) (weights_of found.by w s)) rotations k [] (pos 0) here
+      ∙ sym (gain_at_is (pair_weight found.by w) s rotations on_lists k)
+
+  second_gain_there : has_two_levels found.by w ≡ true → (k : ℕ) → k < length found.poset.rotations → slice_index_or found.in_market.gains2.items k (pos 0) ≡ second_gain_shown w found.poset.rotations k
+  second_gain_there two k here =
+      let s = seating_of w in
+      let rotations = found.poset.rotations in
+      ap (λ (xs : List ℤ). slice_index_or xs k (pos 0)) lightest_there.gains2 ∙ get_or-map (gain_of (seat_market w) (seconds_by found.by w s)) rotations k [] (pos 0) here
+      ∙ sym (second_gain_at_is found.by w s two rotations on_lists k)
+
   -- what is of the nets by levels is of the nets that are shown
-  full_there : AreFullFlows (net_in found.by w (parts_in found needs)) (second_net_in found.by w (parts_in found needs)) found.in_market
-  full_there =
-      let chain = printed_there.chain in
-      let flow = amount_on found.in_market.flow.items in
-      subst (λ (net : Net). AreFullFlows net (second_net_in found.by w (parts_in found needs)) found.in_market) (sym (net_is_shown h chain found.by needs))
-      (subst (λ (other : Net). AreFullFlows (net_of (seat_market w) (levels_of (seating_of w)) (weights_of found.by w (seating_of w)) (leveled w w.forced) (leveled w w.forbidden) found.poset.first.places found.poset.rotations needs) other found.in_market)
-      (sym (second_net_is_shown h chain found.by needs flow)) (lightest_there.full needs needs_there))
+  abbrev second_by_levels : Net
+  second_by_levels = second_net_of (seat_market w) (levels_of (seating_of w)) (weights_of found.by w (seating_of w)) (seconds_by found.by w (seating_of w)) (leveled w w.forced) (leveled w w.forbidden) found.poset.first.places found.poset.rotations needs (amount_on found.in_market.flow.items)
+
+  full_there : AreFullFlows (net_in found.by w (parts_in found needs)) second_by_levels found.in_market
+  full_there = subst (λ (net : Net). AreFullFlows net second_by_levels found.in_market) (sym (net_is_shown h printed_there.chain found.by needs)) (lightest_there.full needs needs_there)
+
+  both_there : has_two_levels found.by w ≡ true → AreFullFlows (net_in found.by w (parts_in found needs)) (second_net_in found.by w (parts_in found needs)) found.in_market
+  both_there two =
+      subst (λ (other : Net). AreFullFlows (net_in found.by w (parts_in found needs)) other found.in_market)
+      (sym (second_net_is_shown h printed_there.chain found.by two needs (amount_on found.in_market.flow.items))) full_there
 
   places_there : found.matching.places ≡ set_matching (seated_poset w found) found.in_market.set.members.items
   places_there = f.places ∙ ap (λ (q : RotationPoset). set_matching q found.in_market.set.members.items) same_poset
@@ -137,7 +166,7 @@ module _ {w : Written} (h : IsSeating w (seating_of w)) (found : Lightest) (f : 
 
   certified : (two : Bool) → has_two_levels found.by w ≡ two
       → AreCertificates two (net_in found.by w (parts_in found needs)) (second_net_in found.by w (parts_in found needs)) found.in_market.flow.items found.in_market.flow2.items found.in_market.set.members.items
-  certified true is = (fills full_there.first, record { fills = fills full_there.second; reach = full_there.reach })
+  certified true is = let both = both_there is in (fills both.first, record { fills = fills both.second; reach = both.reach })
   certified false is = let one = alone_there is in (record { fills = fills full_there.first; reach = one.reach }, one.no_flow)
 
   -- the lines of one rotation
@@ -146,13 +175,12 @@ module _ {w : Written} (h : IsSeating w (seating_of w)) (found : Lightest) (f : 
       let s = seating_of w in
       let rotations = found.poset.rotations in
       let parts = parts_in found needs in
-      let gain : slice_index_or found.in_market.gains.items k (pos 0) ≡ gain_in found.by w parts k =
-      ap (λ (xs : List ℤ). slice_index_or xs k (pos 0)) lightest_there.gains ∙ get_or-map (gain_of (seat_market w) (weights_of found.by w s)) rotations k [] (pos 0) here in
-      let second : slice_index_or found.in_market.gains2.items k (pos 0) ≡ second_gain_in found.by w parts k =
-      ap (λ (xs : List ℤ). slice_index_or xs k (pos 0)) lightest_there.gains2 ∙ get_or-map (gain_of (seat_market w) (seconds_by found.by w s)) rotations k [] (pos 0) here in
-      ap (λ z. two_lines s rotations needs k ++ LineData.Gain (k + 1) z ∷ in_two found.two_levels (second_gain_line found.in_market.gains2.items k ∷ [])) gain
-      ∙ ap (λ z. two_lines s rotations needs k ++ LineData.Gain (k + 1) (gain_in found.by w parts k) ∷ in_two found.two_levels (LineData.SecondGain (k + 1) z ∷ [])) second
-      ∙ ap (λ two. two_lines s rotations needs k ++ LineData.Gain (k + 1) (gain_in found.by w parts k) ∷ in_two two (LineData.SecondGain (k + 1) (second_gain_in found.by w parts k) ∷ [])) f.two_levels
+      let second : in_two (has_two_levels found.by w) (second_gain_line found.in_market.gains2.items k ∷ []) ≡ in_two (has_two_levels found.by w) (LineData.SecondGain (k + 1) (second_gain_shown w parts.rotations k) ∷ []) =
+      of_two (second_gain_line found.in_market.gains2.items k ∷ []) (LineData.SecondGain (k + 1) (second_gain_shown w parts.rotations k) ∷ []) (has_two_levels found.by w)
+      (λ two. ap (λ z. LineData.SecondGain (k + 1) z ∷ []) (second_gain_there two k here)) in
+      ap (λ z. two_lines s rotations needs k ++ LineData.Gain (k + 1) z ∷ in_two found.two_levels (second_gain_line found.in_market.gains2.items k ∷ [])) (gain_there k here)
+      ∙ ap (λ two. two_lines s rotations needs k ++ LineData.Gain (k + 1) (gain_shown found.by w rotations k) ∷ in_two two (second_gain_line found.in_market.gains2.items k ∷ [])) f.two_levels
+      ∙ ap (λ (lines : List LineData). two_lines s rotations needs k ++ LineData.Gain (k + 1) (gain_shown found.by w rotations k) ∷ lines) second
       ∙ sym (gained_shown found.by w parts k)
 
   -- the figures of the second level
@@ -162,12 +190,11 @@ module _ {w : Written} (h : IsSeating w (seating_of w)) (found : Lightest) (f : 
       let figures : ℕ → ℕ → ℤ → List LineData = (λ value cut total. LineData.SecondValue value ∷ LineData.SecondCut cut ∷ LineData.SecondTotal total ∷ []) in
       let two = has_two_levels found.by w in
       let value : ℕ = flow_value (second_net_in found.by w (parts_in found needs)) (amount_on found.in_market.flow2.items) in
-      let cut : ℕ = cut_of (second_net_in found.by w (parts_in found needs)) found.in_market.set.members.items in
       ap (λ two. in_two two (figures found.in_market.cut2 found.in_market.cut2 found.second_total)) f.two_levels
-      ∙ ap (λ v. in_two two (figures v found.in_market.cut2 found.second_total)) (sym full_there.second.value)
-      ∙ ap (λ k. in_two two (figures value k found.second_total)) (sym full_there.second.cut_is)
-      ∙ ap (λ z. in_two two (figures value cut z)) (f.second_total ∙ ap (λ (x : Places). second_of found.by w (written_of (seating_of w) x.proposers)) places_there
+      ∙ ap (λ z. in_two two (figures found.in_market.cut2 found.in_market.cut2 z)) (f.second_total ∙ ap (λ (x : Places). second_of found.by w (written_of (seating_of w) x.proposers)) places_there
       ∙ sym (ap (second_of found.by w) shown_is))
+      ∙ of_two _ (second_figures found.by w (parts_in found needs)) two (λ is. let both = both_there is in ap (λ v. figures v found.in_market.cut2 (second_of found.by w (matching_in w (parts_in found needs)))) (sym both.second.value)
+      ∙ ap (λ k. figures value k (second_of found.by w (matching_in w (parts_in found needs)))) (sym both.second.cut_is))
 
   -- the lines that are given are those of the answer
   given_is : weight_given (seating_of w) found found.poset.first.places found.poset.rotations needs (suc (length found.poset.rotations)) ≡ weight_lines found.by w (parts_in found needs)

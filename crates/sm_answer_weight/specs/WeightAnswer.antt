@@ -1,5 +1,5 @@
 -- The answer of `weight`.
-use Rattle.std.specs.Prelude.{◌≡◌, ℕ, suc, ◌+◌, ◌==◌, if◌then◌else◌, Bool, true, false, List, [], ◌∷◌, ◌++◌, length, map, filter, Option, ℤ}
+use Rattle.std.specs.Prelude.{◌≡◌, ℕ, suc, ◌+◌, ◌==◌, if◌then◌else◌, Bool, true, false, List, [], ◌∷◌, ◌++◌, length, map, filter, Option}
 use Rattle.std.specs.List.{All, flat_map, range_with_len}
 use Rattle.sm_answer.specs.Lines.{lines_from}
 use Rattle.sm_agents.specs.Written.{Written}
@@ -58,14 +58,6 @@ pub record WeightParts : Type 0 where
 abbrev pub shown_in : Written → WeightParts → ShownRotations
 shown_in w parts = shown_of (seating_of w) parts.first parts.rotations parts.needs
 
--- the gain of a rotation
-abbrev pub gain_in : Measure → Written → WeightParts → ℕ → ℤ
-gain_in by w parts k = gain_shown by w parts.rotations k
-
--- its gain by second weights
-abbrev pub second_gain_in : Measure → Written → WeightParts → ℕ → ℤ
-second_gain_in by w parts k = second_gain_shown by w parts.rotations k
-
 -- the net of the gains, the needs and the conditions
 abbrev pub net_in : Measure → Written → WeightParts → Net
 net_in by w parts = net_shown by w parts.first parts.rotations parts.needs
@@ -85,8 +77,8 @@ in_two two lines = if two then lines else []
 -- the lines of a rotation: its pairs, its needs, its gain and, in two levels, its second gain
 abbrev pub gained_lines : Measure → Written → WeightParts → ℕ → List LineData
 gained_lines by w parts k =
-    rotation_lines (shown_in w parts) k ++ LineData.Gain (k + 1) (gain_in by w parts k)
-    ∷ in_two (has_two_levels by w) (LineData.SecondGain (k + 1) (second_gain_in by w parts k) ∷ [])
+    rotation_lines (shown_in w parts) k ++ LineData.Gain (k + 1) (gain_shown by w parts.rotations k)
+    ∷ in_two (has_two_levels by w) (LineData.SecondGain (k + 1) (second_gain_shown w parts.rotations k) ∷ [])
 
 -- a node as lines name it: the source is 0, rotations are numbered from 1, and the sink has the last number of 32 bits
 abbrev pub shown_node : (sink node : ℕ) → ℕ

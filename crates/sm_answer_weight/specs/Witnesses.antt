@@ -10,7 +10,7 @@ use Rattle.sm_report.specs.Lines.{LineData}
 use Rattle.sm_report.specs.Texts.{SOURCE, SINK}
 use Rattle.sm_report.specs.Witnesses.{first_seat_of}
 use Rattle.sm_seats.specs.Seating.{seating_of}
-use Rattle.sm_seats.specs.Witnesses.{turning_hospitals, firsts}
+use Rattle.sm_seats.specs.Witnesses.{turning_hospitals, turning_rotation, firsts}
 use Rattle.sm_seats.specs.ShownNet.{entry_node, exit_node, net_shown}
 use Rattle.sm_theory.specs.Witnesses.{three_cycle_first, three_cycle_chain}
 use Rattle.sm_theory.specs.WitnessesFlows.{three_cycle_needs}
@@ -110,7 +110,7 @@ WorkedOfTwo = weight_lines Given three_of_two parts_of_two ≡ answer_of_two
 
 -- the rotation in which the resident r0 goes from one seat of h to its other one, r1 from h to k, and r2 from k to h
 abbrev pub turning_rotations : List (List (ℕ × ℕ))
-turning_rotations = ((0, 0) ∷ (1, 1) ∷ (2, 2) ∷ []) ∷ []
+turning_rotations = turning_rotation ∷ []
 
 -- whether unbounded edges lead from each node of its net to each one: from the source, from the rotation, and from the sink
 abbrev pub turning_edges : Written → List (List Bool)

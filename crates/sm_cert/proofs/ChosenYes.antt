@@ -1,5 +1,5 @@
 -- What a yes on an answer of `meet` and of `join` means.
-use Rattle.std.proofs.Common.{◌≡◌, ℕ, ◌⊎◌, ◌||◌, ◌==◌, inl, inr, arith, refl, sym, ap, ◌∙◌, Bool, true, false, List, [], ◌∷◌, ◌++◌, length, take, Option, Some, None, IsSome, subst}
+use Rattle.std.proofs.Common.{◌≡◌, ℕ, ◌⊎◌, ◌||◌, ◌==◌, inl, inr, arith, refl, sym, ap, ◌∙◌, Bool, true, false, List, [], ◌∷◌, ◌++◌, length, take, codes, Option, Some, None, IsSome, subst}
 use Rattle.std.specs.Prelude.{Contains, IfSome}
 use Rattle.std.specs.List.{slice_get}
 use Rattle.std.proofs.lemmas.Bool.{false≢true}
@@ -17,11 +17,10 @@ use Rattle.sm_holding.specs.Held.{partner_in, places_in, CanFollow}
 use Rattle.sm_holding.specs.Chosen.{chosen_places, head_for}
 use Rattle.sm_holding.proofs.ChoiceLemmas.{chosen_assigned}
 use Rattle.sm_report.specs.Lines.{LineData}
-use Rattle.sm_report.specs.declared.keywords.Keyword.TheVariants as keyword
 use Rattle.sm_check_clauses.specs.declared.verdicts.Reason.TheVariants as reason
 use Rattle.sm_check_forms.proofs.KeywordNumbers.{keyword_number}
 use Rattle.sm_report.specs.Keywords.{keyword_of}
-use Rattle.sm_check_forms.specs.Forms.{layouts_of, given_layout}
+use Rattle.sm_check_forms.proofs.KeywordLayouts.{layouts_of, given_layout}
 use Rattle.sm_check_clauses.specs.Said.{pair_in, pairs_in, left_in, lefts_in, right_in, rights_in}
 use Rattle.sm_check_clauses.specs.Pairs.{IsWanted, AreAllThere}
 use Rattle.sm_check_clauses.specs.Judging.{answer, Clauses}
@@ -113,7 +112,7 @@ one_layout : (choice : Choice) (w : Written) → layouts_of (Two w) (head_for ch
 one_layout Better w = refl
 one_layout Worse w = refl
 
-closing_so : (choice : Choice) → closing_of (head_for choice) ≡ keyword.End ∷ []
+closing_so : (choice : Choice) → closing_of (head_for choice) ≡ codes "end" ∷ []
 closing_so Better = refl
 closing_so Worse = refl
 

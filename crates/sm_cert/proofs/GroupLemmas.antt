@@ -19,14 +19,13 @@ use Rattle.sm_check_forms.specs.declared.layouts.Opening.{Opening}
 use Rattle.sm_check_clauses.specs.declared.verdicts.Reason.{Reason}
 use Rattle.sm_check_forms.proofs.KeywordNumbers.{keyword_number, same_number}
 use Rattle.sm_report.specs.Keywords.{keyword_of}
-use Rattle.sm_check_forms.specs.Layouts.{begins, keyword_at, behind, left_behind, is_empty, is_whole}
-use Rattle.sm_check_forms.specs.Forms.{layouts_of, opening_of}
+use Rattle.sm_check_forms.proofs.KeywordLayouts.{begins, keyword_at, behind, left_behind, is_whole, layouts_of, opening_of, left_behind-none}
+use Rattle.sm_check_forms.specs.Layouts.{is_empty}
 use Rattle.sm_check_clauses.specs.Verdicts.{AtLine}
 use Rattle.sm_check_clauses.specs.Said.{IsFirstBehind}
 use Rattle.sm_check_clauses.specs.Judging.{Subject, Clauses}
 use Rattle.sm_cert.specs.Yes.{GetsYes}
 use Rattle.sm_theory.proofs.Net.Tests.{and_parts}
-use Rattle.sm_check_forms.proofs.LayoutLemmas.{left_behind-none}
 use Rattle.sm_cert.proofs.YesLines.{IsRight, by_head, got_at, taken_front}
 
 -- What is left of a layout behind a line of a whole answer.

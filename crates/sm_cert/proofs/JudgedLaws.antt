@@ -6,14 +6,12 @@ use Rattle.std.proofs.lemmas.List.{take-map, take-take, take-append-drop}
 use Rattle.std.proofs.lemmas.List.Elements.{All-take}
 use Rattle.std.proofs.lemmas.List.Folds.{list_all-append}
 use Rattle.sm_lists.proofs.Counting.{lt_or_le}
-use Rattle.sm_theory.proofs.Tests.Pairs.{and_left}
+use Rattle.sm_lists.proofs.BoolLemmas.{first_true}
 use Rattle.sm_instance.specs.declared.inputs.Input.{Input}
 use Rattle.sm_report.specs.Lines.{LineData}
 use Rattle.sm_report.specs.Sound.{IsLineOf}
 use Rattle.sm_report.specs.Texts.{text_of_line}
-use Rattle.sm_check_forms.specs.declared.layouts.LayoutPart.{LayoutPart}
-use Rattle.sm_check_forms.specs.declared.layouts.Opening.{Opening}
-use Rattle.sm_check_forms.specs.Layouts.{left_behind, is_empty, is_begun, is_whole}
+use Rattle.sm_check_forms.specs.Layouts.{OpeningData, Part, left_behind, is_empty, is_begun, is_whole}
 use Rattle.sm_check_forms.specs.Forms.{layouts_of, opening_of, fits, is_placed, AreFirstLines, AreAnswer, BeginAnAnswer, IsMisplaced}
 use Rattle.sm_check_clauses.specs.Verdicts.{IsVerdict}
 use Rattle.sm_check_clauses.specs.Judging.{Holds}
@@ -25,25 +23,25 @@ use Rattle.sm_cert.proofs.VerdictLaws.{one_verdict}
 -- all of the first lines pass a test that all lines pass
 all_of_first : (p : LineData → Bool) (n : ℕ) (lines : List LineData) → list_all p lines ≡ true → list_all p (take n lines) ≡ true
 all_of_first p n lines h =
-    and_left (list_all p (take n lines)) (list_all p (drop n lines))
+    first_true (list_all p (take n lines)) (list_all p (drop n lines))
     (sym (list_all-append p (take n lines) (drop n lines)) ∙ ap (list_all p) (take-append-drop n lines) ∙ h)
 
 -- what begins an answer in one of the layouts has a front that does
-begun_front : (layouts : List (List LayoutPart)) (lines : List Opening) (k : ℕ) → is_begun layouts lines ≡ true → is_begun layouts (take k lines) ≡ true
+begun_front : (layouts : List (List Part)) (lines : List OpeningData) (k : ℕ) → is_begun layouts lines ≡ true → is_begun layouts (take k lines) ≡ true
 begun_front layouts lines k e = go (left_behind layouts (take k lines)) refl
   where
-    go : (left : List (List LayoutPart)) → left_behind layouts (take k lines) ≡ left → cond (is_empty left) false true ≡ true
+    go : (left : List (List Part)) → left_behind layouts (take k lines) ≡ left → cond (is_empty left) false true ≡ true
     go [] h =
         let parts = ap (left_behind layouts) (sym (take-append-drop k lines)) ∙ left_behind-append layouts (take k lines) (drop k lines) in
         let none = parts ∙ ap (λ ls. left_behind ls (drop k lines)) h ∙ left_behind-none (drop k lines) in
-        absurd (false≢true (sym (ap (λ (ls : List (List LayoutPart)). cond (is_empty ls) false true) none) ∙ e))
+        absurd (false≢true (sym (ap (λ (ls : List (List Part)). cond (is_empty ls) false true) none) ∙ e))
     go (x ∷ xs) h = refl
 
 module _ (input : Input) where
   first_placed : (n : ℕ) (lines : List LineData) → is_placed is_whole input lines ≡ true → is_placed is_begun input (take (suc n) lines) ≡ true
   first_placed n [] e = absurd (false≢true e)
   first_placed n (LineData.Answer head ∷ lines) e =
-      ap (is_begun (layouts_of input head)) (sym (take-map opening_of n lines)) ∙ whole_is_begun (layouts_of input head) (map opening_of lines) n e
+      ap (is_begun (layouts_of input head)) (sym (take-map (opening_of input) n lines)) ∙ whole_is_begun (layouts_of input head) (map (opening_of input) lines) n e
   first_placed n (_ ∷ lines) e = absurd (false≢true e)
 
   -- the first lines of an answer begin one
@@ -69,7 +67,7 @@ module _ (input : Input) where
   begun_placed : (n : ℕ) (lines : List LineData) → is_placed is_begun input lines ≡ true → is_placed is_begun input (take (suc n) lines) ≡ true
   begun_placed n [] e = absurd (false≢true e)
   begun_placed n (LineData.Answer head ∷ lines) e =
-      ap (is_begun (layouts_of input head)) (sym (take-map opening_of n lines)) ∙ begun_front (layouts_of input head) (map opening_of lines) n e
+      ap (is_begun (layouts_of input head)) (sym (take-map (opening_of input) n lines)) ∙ begun_front (layouts_of input head) (map (opening_of input) lines) n e
   begun_placed n (_ ∷ lines) e = absurd (false≢true e)
 
   front_begins : (n : ℕ) (texts : List (List ℕ)) → BeginAnAnswer input texts → BeginAnAnswer input (take (suc n) texts)

@@ -7,6 +7,7 @@ use Rattle.std.proofs.lemmas.Bool.{false≢true, cases_lt}
 use Rattle.std.proofs.lemmas.List.Elements.{filter_map-append}
 use Rattle.std.proofs.lemmas.List.{take-append-le}
 use Rattle.std.proofs.lemmas.Option.{same_Some}
+use Rattle.sm_lists.proofs.BoolLemmas.{first_true, second_true}
 use Rattle.sm_agents.specs.Written.{Written}
 use Rattle.sm_instance.specs.declared.inputs.Input.TheVariants.{Two}
 use Rattle.sm_agents.specs.declared.kinds.Measure.{Measure}
@@ -16,26 +17,26 @@ use Rattle.sm_report.specs.Lines.{LineData}
 use Rattle.sm_check_forms.specs.declared.layouts.LayoutPart.{LayoutPart}
 use Rattle.sm_check_forms.specs.Layouts.{is_whole}
 use Rattle.sm_check_forms.specs.Forms.{is_placed}
+use Rattle.sm_check_forms.proofs.KeywordLayouts.{whole_same}
 use Rattle.sm_check_clauses.specs.Said.{rotation_in, needs_in, is_up_to_rotations}
 use Rattle.sm_check_weight.specs.Order.{AreNeedsInOrder}
 use Rattle.sm_cert.specs.Checking.{first_head}
 use Rattle.sm_cert.proofs.GroupLemmas.{AllOut, AreDown, all_down, down_taken, none_said}
 use Rattle.sm_cert.proofs.RotationLines.{rotation_words, rotations_tell, needs_in-none, rotation_up, Splits, Turns}
-use Rattle.sm_check_forms.proofs.TakingLemmas.{and_left, and_right}
 use Rattle.sm_cert.proofs.WeightYes.{turns_behind}
 
 -- a line among those that are up to somewhere is up to there
 up_front : (up : LineData → Bool) (before below : List LineData) (k : ℕ) (x : LineData) → list_all up before ≡ true → slice_get (before ++ below) k ≡ Some x → k < length before → up x ≡ true
 up_front up [] below k x ups there less = absurd (omega arith)
-up_front up (y ∷ ys) below zero x ups there less = ap up (sym (same_Some _ _ there)) ∙ and_left (up y) (list_all up ys) ups
-up_front up (y ∷ ys) below (suc k) x ups there less = up_front up ys below k x (and_right (up y) (list_all up ys) ups) there (omega arith)
+up_front up (y ∷ ys) below zero x ups there less = ap up (sym (same_Some _ _ there)) ∙ first_true (up y) (list_all up ys) ups
+up_front up (y ∷ ys) below (suc k) x ups there less = up_front up ys below k x (second_true (up y) (list_all up ys) ups) there (omega arith)
 
 -- the front of those that are up to somewhere
 all_up : (up : LineData → Bool) (before : List LineData) (k : ℕ) → list_all up before ≡ true → list_all up (take k before) ≡ true
 all_up up before zero ups = refl
 all_up up [] (suc k) ups = refl
 all_up up (y ∷ ys) (suc k) ups =
-    ap (λ b. b && list_all up (take k ys)) (and_left (up y) (list_all up ys) ups) ∙ all_up up ys k (and_right (up y) (list_all up ys) ups)
+    ap (λ b. b && list_all up (take k ys)) (first_true (up y) (list_all up ys) ups) ∙ all_up up ys k (second_true (up y) (list_all up ys) ups)
 
 -- a line behind those
 down_behind : (up : LineData → Bool) (before below : List LineData) → AreDown up below → (k : ℕ) (x : LineData) → length before ≤ k → slice_get (before ++ below) k ≡ Some x → up x ≡ false
@@ -96,5 +97,5 @@ module _ {w : Written} {rest : List LayoutPart} {out : AllOut rotation_words res
 
 -- so it is in any answer of `weight` in its form
 pub weight_order : (w : Written) (lines : List LineData) → is_placed is_whole (Two w) lines ≡ true → (by : Measure) → first_head lines ≡ Some (HeadData.Weight by) → AreNeedsInOrder w lines
-weight_order w (LineData.Answer (HeadData.Weight by) ∷ rest) placed by' head = in_order (turns_behind w by (has_two_levels by w) rest placed)
+weight_order w (LineData.Answer (HeadData.Weight by) ∷ rest) placed by' head = in_order (turns_behind w by (has_two_levels by w) rest (whole_same (Two w) (HeadData.Weight by) rest ∙ placed))
 weight_order w _ placed by head = absurd cc

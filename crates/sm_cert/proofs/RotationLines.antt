@@ -12,8 +12,8 @@ use Rattle.sm_check_forms.specs.declared.layouts.LayoutPart.{LayoutPart}
 use Rattle.sm_check_forms.specs.declared.layouts.LayoutPart.TheVariants.{Many, Blocks}
 use Rattle.sm_check_forms.proofs.KeywordNumbers.{keyword_number}
 use Rattle.sm_report.specs.Keywords.{keyword_of}
-use Rattle.sm_check_forms.specs.Layouts.{behind, is_whole, is_empty, left_behind}
-use Rattle.sm_check_forms.specs.Forms.{blocks_of, opening_of}
+use Rattle.sm_check_forms.proofs.KeywordLayouts.{behind, is_whole, left_behind, blocks_of, opening_of}
+use Rattle.sm_check_forms.specs.Layouts.{is_empty}
 use Rattle.sm_check_clauses.specs.Said.{first_in, rotation_in, rotations_in, needs_in, all_needs_in, is_up_to_rotations}
 use Rattle.sm_cert.proofs.GroupLemmas.{Tells, AllOut, AreDown, goes, all_down, none_said}
 use Rattle.sm_cert.proofs.YesLines.{no_line}

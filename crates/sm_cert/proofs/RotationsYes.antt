@@ -20,8 +20,7 @@ use Rattle.sm_report.specs.Lines.{LineData}
 use Rattle.sm_check_clauses.specs.declared.verdicts.Reason.{Reason}
 use Rattle.sm_check_clauses.specs.declared.verdicts.Reason.TheVariants as reason
 use Rattle.sm_check_forms.specs.declared.layouts.LayoutPart.{LayoutPart}
-use Rattle.sm_check_forms.specs.Layouts.{is_whole}
-use Rattle.sm_check_forms.specs.Forms.{closing, rotations_layout, opening_of}
+use Rattle.sm_check_forms.proofs.KeywordLayouts.{is_whole, closing, rotations_layout, opening_of}
 use Rattle.sm_check_clauses.specs.Said.{first_in, firsts_in, rotation_in, rotations_in, needs_in, all_needs_in, is_up_to_firsts, is_up_to_rotations}
 use Rattle.sm_check_clauses.specs.SeatMatchings.{FirstsHold, IsFreeSeat, seat_places_in, first_of}
 use Rattle.sm_check_clauses.specs.Chain.{ChainHolds, reached, last_rotation}

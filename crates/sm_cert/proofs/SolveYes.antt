@@ -23,8 +23,7 @@ use Rattle.sm_check_forms.specs.declared.layouts.LayoutPart.{LayoutPart}
 use Rattle.sm_check_forms.specs.declared.layouts.LayoutPart.TheVariants.{Many}
 use Rattle.sm_check_forms.proofs.KeywordNumbers.{keyword_number}
 use Rattle.sm_report.specs.Keywords.{keyword_of}
-use Rattle.sm_check_forms.specs.Forms.{closing, regret_layout, opening_of}
-use Rattle.sm_check_forms.specs.Layouts.{is_whole, begins}
+use Rattle.sm_check_forms.proofs.KeywordLayouts.{closing, regret_layout, opening_of, is_whole, begins}
 use Rattle.sm_check_clauses.specs.Said.{pair_in, pairs_in, regret_in, first_said}
 use Rattle.sm_cert.specs.Yes.{ArePairsOf, SolveYes, RegretYes}
 use Rattle.sm_cert.proofs.GroupLemmas.{Tells, goes, all_down, none_said}

@@ -14,8 +14,8 @@ use Rattle.sm_check_forms.specs.declared.layouts.LayoutPart.{LayoutPart}
 use Rattle.sm_check_forms.specs.declared.layouts.LayoutPart.TheVariants.{One, Many}
 use Rattle.sm_check_forms.proofs.KeywordNumbers.{keyword_number}
 use Rattle.sm_report.specs.Keywords.{keyword_of}
-use Rattle.sm_check_forms.specs.Layouts.{begins, behind, left_behind, is_empty, is_whole}
-use Rattle.sm_check_forms.specs.Forms.{closing, opening_of}
+use Rattle.sm_check_forms.proofs.KeywordLayouts.{begins, behind, left_behind, is_whole, closing, opening_of}
+use Rattle.sm_check_forms.specs.Layouts.{is_empty}
 use Rattle.sm_check_clauses.specs.Said.{taken_in, value_in, second_value_in, cut_in, second_cut_in, total_in, second_total_in, is_up_to_rotations}
 use Rattle.sm_cert.proofs.GroupLemmas.{AllOut, Tells, Parted, goes, all_down, none_said, none_up}
 use Rattle.sm_cert.proofs.RotationLines.{Splits, one_split}

@@ -44,8 +44,7 @@ use Rattle.sm_check_forms.specs.declared.layouts.LayoutPart.{LayoutPart}
 use Rattle.sm_check_net.specs.CheckedNets.{AreNumbersBelow}
 use Rattle.sm_check_clauses.specs.declared.verdicts.Reason.{Reason}
 use Rattle.sm_check_clauses.specs.declared.verdicts.Reason.TheVariants as reason
-use Rattle.sm_check_forms.specs.Layouts.{is_whole}
-use Rattle.sm_check_forms.specs.Forms.{weight_layout, layouts_of, opening_of}
+use Rattle.sm_check_forms.proofs.KeywordLayouts.{is_whole, weight_layout, layouts_of, opening_of}
 use Rattle.sm_check_clauses.specs.Said.{first_in, firsts_in, rotation_in, rotations_in, needs_in, all_needs_in, flow_in, flows_in, second_flow_in, taken_in, value_in, cut_in, second_value_in, second_cut_in, pair_in, pairs_in, first_said, is_up_to_firsts, is_up_to_rotations}
 use Rattle.sm_check_clauses.specs.SeatMatchings.{seat_places_in, first_of}
 use Rattle.sm_check_clauses.specs.Pairs.{IsWanted, AreAllThere}
@@ -159,16 +158,16 @@ module _ (w : Written) (by : Measure) where
     same_net : net_by d ≡ net_by_levels
     same_net = net_is_shown h c.ground.chain by d.needs
 
-    same_second : second_net_by d ≡ second_by_levels
-    same_second = second_net_is_shown h c.ground.chain by d.needs (amount_on (flow_by d))
+    same_second : has_two_levels by w ≡ true → second_net_by d ≡ second_by_levels
+    same_second two = second_net_is_shown h c.ground.chain by two d.needs (amount_on (flow_by d))
 
     is_flow : IsFullFlow net_by_levels (flow_by d) (set_by d)
     is_flow = subst (λ (net : Net). IsFullFlow net (flow_by d) (set_by d)) same_net (full_flow c.filled)
 
     best_seats : (two : Bool) → has_two_levels by w ≡ two → Reaches two d → IsLightestSeated (seats_by d) × IsBestSeated (seats_by d)
     best_seats true e reaches =
-        let second = subst (λ (net : Net). IsFullFlow net (second_flow_by d) (set_by d)) same_second (full_flow reaches.0) in
-        let reach = subst (λ (net : Net). IsResidualReach net (amount_on (second_flow_by d)) (set_by d)) same_second reaches.1 in
+        let second = subst (λ (net : Net). IsFullFlow net (second_flow_by d) (set_by d)) (same_second e) (full_flow reaches.0) in
+        let reach = subst (λ (net : Net). IsResidualReach net (amount_on (second_flow_by d)) (set_by d)) (same_second e) reaches.1 in
         certificate_of_two (seat_market w) (levels_of (seating_of w)) (weights_of by w (seating_of w)) (seconds_by by w (seating_of w)) (leveled w w.forced) (leveled w w.forbidden) (start_of d) d.rotations d.needs (amount_on (flow_by d)) (amount_on (second_flow_by d)) (set_by d)
         c.ground c.closed seats_allowed is_flow.is_flow is_flow.full second.is_flow reach second.full
     best_seats false e reach =

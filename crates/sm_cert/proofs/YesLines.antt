@@ -1,5 +1,5 @@
 -- The lines of an answer that gets a yes: all clauses hold at each, and the last one closes it.
-use Rattle.std.proofs.Common.{◌≡◌, ◌≢◌, ℕ, zero, suc, ◌≤◌, ◌||◌, arith, refl, sym, ap, ◌∙◌, Bool, true, false, List, [], ◌∷◌, ◌++◌, length, map, take, slice_index_or, Option, Some, None, subst, append-nil, length-append, take_all}
+use Rattle.std.proofs.Common.{◌≡◌, ◌≢◌, ℕ, zero, suc, ◌≤◌, ◌||◌, arith, refl, sym, ap, ◌∙◌, Bool, true, false, List, [], ◌∷◌, ◌++◌, length, map, take, slice_index_or, codes, Option, Some, None, subst, append-nil, length-append, take_all}
 use Rattle.std.specs.Prelude.{IfSome, filter_map}
 use Rattle.std.specs.List.{cons_option, list_any, slice_get}
 use Rattle.std.proofs.lemmas.Bool.{false≢true}
@@ -12,11 +12,11 @@ use Rattle.sm_instance.specs.declared.inputs.Input.{Input}
 use Rattle.sm_instance.specs.declared.inputs.Input.TheVariants.{Two, Room}
 use Rattle.sm_report.specs.Heads.{HeadData}
 use Rattle.sm_report.specs.Lines.{LineData}
-use Rattle.sm_report.specs.declared.keywords.Keyword.TheVariants as keyword
-use Rattle.sm_check_forms.specs.declared.layouts.Opening.{Opening}
 use Rattle.sm_check_clauses.specs.declared.verdicts.Reason.{Reason}
-use Rattle.sm_check_forms.specs.Layouts.{begins, is_whole}
-use Rattle.sm_check_forms.specs.Forms.{layouts_of, opening_of, is_placed}
+use Rattle.sm_check_forms.specs.Layouts.{OpeningData, begins}
+use Rattle.sm_check_forms.specs.Layouts as words
+use Rattle.sm_check_forms.specs.Forms as form
+use Rattle.sm_check_forms.proofs.KeywordLayouts.{is_whole, layouts_of, opening_of, is_placed, whole_same, placed_same}
 use Rattle.sm_check_clauses.specs.Verdicts.{AtLine}
 use Rattle.sm_check_clauses.specs.Judging.{Subject, answer, couples, parties, Clauses, Holds}
 use Rattle.sm_check_forms.specs.Laws.{closing_of, EndsWith}
@@ -38,15 +38,15 @@ last_of : (x : LineData) (xs : List LineData) → LastOf (x ∷ xs)
 last_of x [] = record { front = []; last = x; is = refl }
 last_of x (y ∷ ys) = let l = last_of y ys in record { front = x ∷ l.front; last = l.last; is = ap (λ (zs : List LineData). x ∷ zs) l.is }
 
-same_last : (xs ys : List Opening) (x y : Opening) → xs ++ x ∷ [] ≡ ys ++ y ∷ [] → x ≡ y
+same_last : (xs ys : List OpeningData) (x y : OpeningData) → xs ++ x ∷ [] ≡ ys ++ y ∷ [] → x ≡ y
 same_last [] [] x y e = cc
-same_last [] (z ∷ ys) x y e = absurd (let n = ap (λ (l : List Opening). length l) e in let m = length-append ys (y ∷ []) in omega arith)
-same_last (z ∷ xs) [] x y e = absurd (let n = ap (λ (l : List Opening). length l) e in let m = length-append xs (x ∷ []) in omega arith)
+same_last [] (z ∷ ys) x y e = absurd (let n = ap (λ (l : List OpeningData). length l) e in let m = length-append ys (y ∷ []) in omega arith)
+same_last (z ∷ xs) [] x y e = absurd (let n = ap (λ (l : List OpeningData). length l) e in let m = length-append xs (x ∷ []) in omega arith)
 same_last (z ∷ xs) (u ∷ ys) x y e = same_last xs ys x y cc
 
-closing_only : (line : LineData) → begins (opening_of line) keyword.End ≡ true → line ≡ LineData.End
-closing_only LineData.End e = refl
-closing_only _ e = absurd (false≢true e)
+closing_only : (input : Input) (line : LineData) → begins (form.opening_of input line) (codes "end") ≡ true → line ≡ LineData.End
+closing_only input LineData.End e = refl
+closing_only input _ e = absurd (false≢true e)
 
 or_false : (b : Bool) → (b || false) ≡ true → b ≡ true
 or_false true e = refl
@@ -56,19 +56,21 @@ record Closes (lines : List LineData) : Type 0 where
   front : List LineData
   is : lines ≡ front ++ LineData.End ∷ []
 
-closes : (input : Input) (head : HeadData) (rest : List LineData) → closing_of head ≡ keyword.End ∷ [] → is_whole (layouts_of input head) (map opening_of rest) ≡ true → Closes rest
+closes : (input : Input) (head : HeadData) (rest : List LineData) → closing_of head ≡ codes "end" ∷ []
+    → words.is_whole (form.layouts_of input head) (map (form.opening_of input) rest) ≡ true → Closes rest
 closes input head [] c e = absurd (no_end (whole_ends input head [] e))
   where
     no_end : EndsWith (closing_of head) [] → ⊥
-    no_end w = let n = ap (λ (l : List Opening). length l) w.is in let m = length-append w.front (w.last ∷ []) in omega arith
+    no_end w = let n = ap (λ (l : List OpeningData). length l) w.is in let m = length-append w.front (w.last ∷ []) in omega arith
 closes input head (x ∷ xs) c e =
-    let w = whole_ends input head (map opening_of (x ∷ xs)) e in
+    let w = whole_ends input head (map (form.opening_of input) (x ∷ xs)) e in
     let l = last_of x xs in
-    let o : opening_of l.last ≡ w.last = same_last (map opening_of l.front) w.front (opening_of l.last) w.last
-    (sym (ap (map opening_of) l.is ∙ map-append opening_of l.front (l.last ∷ [])) ∙ w.is) in
-    let t : (begins (opening_of l.last) keyword.End || false) ≡ true =
-    ap (λ z. list_any (begins z) (keyword.End ∷ [])) o ∙ ap (λ words. list_any (begins w.last) words) (sym c) ∙ w.closes in
-    record { front = l.front; is = l.is ∙ ap (λ (y : LineData). l.front ++ y ∷ []) (closing_only l.last (or_false (begins (opening_of l.last) keyword.End) t)) }
+    let last : OpeningData = form.opening_of input l.last in
+    let o : last ≡ w.last = same_last (map (form.opening_of input) l.front) w.front last w.last
+    (sym (ap (map (form.opening_of input)) l.is ∙ map-append (form.opening_of input) l.front (l.last ∷ [])) ∙ w.is) in
+    let t : (begins last (codes "end") || false) ≡ true =
+    ap (λ z. list_any (begins z) (codes "end" ∷ [])) o ∙ ap (λ ends. list_any (begins w.last) ends) (sym c) ∙ w.closes in
+    record { front = l.front; is = l.is ∙ ap (λ (y : LineData). l.front ++ y ∷ []) (closing_only input l.last (or_false (begins last (codes "end")) t)) }
 
 -- a closed answer at each line of which all clauses hold
 pub record IsRight (subject : Subject) (lines : List LineData) : Type 0 where
@@ -76,17 +78,17 @@ pub record IsRight (subject : Subject) (lines : List LineData) : Type 0 where
   pub ends : lines ≡ front ++ LineData.End ∷ []
   pub holds : (k : ℕ) (why : Reason) → AtLine (Clauses subject) lines k why
 
-right : (input : Input) (subject : Subject) (head : HeadData) (rest : List LineData) → closing_of head ≡ keyword.End ∷ [] → is_whole (layouts_of input head) (map opening_of rest) ≡ true
+right : (input : Input) (subject : Subject) (head : HeadData) (rest : List LineData) → closing_of head ≡ codes "end" ∷ [] → is_whole (layouts_of input head) (map opening_of rest) ≡ true
     → ((k : ℕ) (why : Reason) → AtLine (Clauses subject) (LineData.Answer head ∷ rest) k why) → IsRight subject (LineData.Answer head ∷ rest)
 right input subject head rest c placed holds =
-    let l = closes input head rest c placed in
+    let l = closes input head rest c (sym (whole_same input head rest) ∙ placed) in
     record { front = LineData.Answer head ∷ l.front; ends = ap (λ (ls : List LineData). LineData.Answer head ∷ ls) l.is; holds = holds }
 
 -- what is so of an answer's lines behind its head
 pub by_head : {input : Input} {head : HeadData} {lines : List LineData} (P : List LineData → Type 0) → GetsYes input head lines
     → ((rest : List LineData) → is_whole (layouts_of input head) (map opening_of rest) ≡ true
     → ((k : ℕ) (why : Reason) → Holds input (LineData.Answer head ∷ rest) k why) → P (LineData.Answer head ∷ rest)) → P lines
-by_head {input} {head} {lines} P g f = go lines g.head_is g.answer.placed g.yes
+by_head {input} {head} {lines} P g f = go lines g.head_is (placed_same input lines ∙ g.answer.placed) g.yes
   where
     go : (ls : List LineData) → slice_get ls 0 ≡ Some (LineData.Answer head) → is_placed is_whole input ls ≡ true → ((k : ℕ) (why : Reason) → Holds input ls k why) → P ls
     go [] e placed h = absurd (no_line e)
@@ -97,7 +99,7 @@ by_head {input} {head} {lines} P g f = go lines g.head_is g.answer.placed g.yes
         (subst (λ y. (k : ℕ) (why : Reason) → Holds input (y ∷ xs) k why) same h))
 
 -- over two sides an answer with a yes is right, where only `end` can close it
-pub right_two : {w : Written} {head : HeadData} {lines : List LineData} → closing_of head ≡ keyword.End ∷ [] → GetsYes (Two w) head lines → IsRight (answer w head) lines
+pub right_two : {w : Written} {head : HeadData} {lines : List LineData} → closing_of head ≡ codes "end" ∷ [] → GetsYes (Two w) head lines → IsRight (answer w head) lines
 right_two {w} {head} c g = by_head (IsRight (answer w head)) g (λ rest placed h. right (Two w) (answer w head) head rest c placed h)
 
 -- over roommates an answer with a yes that doesn't say `none` is right by the clauses of couples

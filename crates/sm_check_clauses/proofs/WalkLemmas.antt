@@ -4,6 +4,7 @@ use Rattle.std.specs.Prelude.{IfSome, not, pred}
 use Rattle.std.specs.List.{list_all, cons_option}
 use Rattle.std.proofs.lemmas.Bool.{false≢true, cases_lt}
 use Rattle.std.proofs.lemmas.List.{length_push, get_or_past, get_or_push, get_or_append_left}
+use Rattle.sm_lists.proofs.BoolLemmas.{first_true, second_true}
 use Rattle.sm_agents.specs.Written.{Written}
 use Rattle.sm_market.specs.Lists.{Lists}
 use Rattle.sm_market.specs.Matching.{Places}
@@ -35,7 +36,7 @@ use Rattle.sm_check_clauses.specs.Walks.{AreChainMoves, IsChainWalk, IsWalkOf, A
 use Rattle.sm_check_clauses.specs.WalksKept.{HasStepped}
 use Rattle.sm_check_clauses.specs.Verdicts.{IsFirstThere}
 use Rattle.sm_check_clauses.proofs.AnswerLemmas.{first_clause, said_same, said_one}
-use Rattle.sm_check_forms.proofs.TakingLemmas.{and_left, and_right, all_more}
+use Rattle.sm_check_forms.proofs.TakingLemmas.{all_more}
 use Rattle.sm_check_clauses.proofs.SeatPairLemmas.{none_free}
 
 -- the matching that is reached with one more rotation
@@ -207,8 +208,8 @@ up_to_firsts w _ e = absurd (false≢true e)
 all_up_to : (w : Written) (above : List LineData) → list_all is_up_to_firsts above ≡ true → (list_all is_up_to_rotations above ≡ true) × (rotations_in w above ≡ [])
 all_up_to w [] e = (refl, refl)
 all_up_to w (x ∷ above) e =
-    let one = up_to_firsts w x (and_left (is_up_to_firsts x) (list_all is_up_to_firsts above) e) in
-    let others = all_up_to w above (and_right (is_up_to_firsts x) (list_all is_up_to_firsts above) e) in
+    let one = up_to_firsts w x (first_true (is_up_to_firsts x) (list_all is_up_to_firsts above) e) in
+    let others = all_up_to w above (second_true (is_up_to_firsts x) (list_all is_up_to_firsts above) e) in
     (ap (λ b. b && list_all is_up_to_rotations above) one.0 ∙ others.0, ap (λ (o : Option (List (ℕ × ℕ))). cons_option o (rotations_in w above)) one.1 ∙ others.1)
 
 -- the rotations begin behind the first matching

@@ -3,20 +3,18 @@ use Rattle.std.specs.Prelude.{◌≡◌, ℕ, suc, ◌+◌, ◌≤◌, ◌==◌,
 use Rattle.std.specs.List.{range_with_len, list_any}
 use Rattle.sm_agents.specs.Written.{Written}
 use Rattle.sm_instance.specs.Allowed.{IsAllowed}
-use Rattle.sm_instance.specs.Ranks.{weight_of, second_of}
+use Rattle.sm_instance.specs.Ranks.{pair_weight, weight_of, pair_second, second_of}
 use Rattle.sm_agents.specs.declared.kinds.Measure.{Measure}
 use Rattle.sm_theory.specs.Chains.{rotation_at}
 use Rattle.sm_theory.specs.ClosedSets.{IsClosed, matching_of}
-use Rattle.sm_theory.specs.Weights.{gain_of}
 use Rattle.sm_theory.specs.Net.{Net, cut_of}
 use Rattle.sm_theory.specs.Flows.{IsResidualReach}
 use Rattle.sm_theory.specs.FlowLines.{amount_on, amount_from, IsNewEdge, IsWithinRoom, IsConserved}
 use Rattle.sm_theory.specs.declared.flow_lines.FlowLine.{FlowLine}
 use Rattle.sm_seats.specs.SeatMarket.{seat_market}
 use Rattle.sm_seats.specs.Seating.{seating_of, written_of}
-use Rattle.sm_seats.specs.Correspondence.{weights_of}
-use Rattle.sm_seats.specs.Levels.{has_two_levels, seconds_by}
-use Rattle.sm_seats.specs.ShownNet.{net_shown, second_net_shown}
+use Rattle.sm_seats.specs.Levels.{has_two_levels}
+use Rattle.sm_seats.specs.ShownNet.{gain_by, net_shown, second_net_shown}
 use Rattle.sm_report.specs.Lines.{LineData}
 use Rattle.sm_report.specs.Texts.{SINK}
 use Rattle.sm_check_clauses.specs.declared.verdicts.Reason.{Reason}
@@ -65,14 +63,14 @@ pub record IsAllowedSet (w : Written) (lines : List LineData) (taken : List ℕ)
   pub closed : IsClosed (seat_market w) (rotations_in w lines) (set_of_numbers (size_in w lines) taken)
   pub allowed : IsAllowed w (matching_of_set w lines (set_of_numbers (size_in w lines) taken))
 
--- One level of weights: the keywords of its lines, its weights of the places in the market and of matchings, and its net
+-- One level of weights: the keywords of its lines, what pairs and matchings weigh in it, and its net
 pub record Level : Type 0 where
   pub gain : LineData → Option ℤ
   pub flow : LineData → Option FlowLine
   pub value : LineData → Option ℕ
   pub cut : LineData → Option ℕ
   pub total : LineData → Option ℤ
-  pub weights : List (List ℤ)
+  pub weigh : ℕ → Option ℕ → ℤ
   pub weight : List (Option ℕ) → ℤ
   pub net : Net
 
@@ -84,7 +82,7 @@ first_level w by lines = record {
   value = value_in;
   cut = cut_in;
   total = total_in;
-  weights = weights_of by w (seating_of w);
+  weigh = pair_weight by w;
   weight = weight_of by w;
   net = net_in w by lines;
 }
@@ -101,7 +99,7 @@ second_level w by lines = record {
   value = second_value_in;
   cut = second_cut_in;
   total = second_total_in;
-  weights = seconds_by by w (seating_of w);
+  weigh = pair_second w;
   weight = second_of by w;
   net = second_net_shown by w (first_of w lines) (rotations_in w lines) (all_needs_in lines)
       (amount_on (flow_of w (first_level w by lines) lines));
@@ -115,7 +113,7 @@ last_level w by lines = if has_two_levels by w then second_level w by lines else
 abbrev pub LevelHolds : Written → Level → List LineData → LineData → Reason → Type 0
 LevelHolds w level above line reason.WrongGain =
     IfSome (level.gain line)
-    (λ gain. gain ≡ gain_of (seat_market w) level.weights (rotation_at (rotations_in w above) (last_rotation w above)))
+    (λ gain. gain ≡ gain_by level.weigh (seating_of w) (rotation_at (rotations_in w above) (last_rotation w above)))
 LevelHolds w level above line reason.NoEdge =
     IfSome (level.flow line) (λ flow. IsNewEdge level.net (flow_of w level above) (on_nodes (size_in w above) flow))
 LevelHolds w level above line reason.OverRoom =

@@ -1,12 +1,12 @@
 -- Seats by the first seats of reviewers.
 use Rattle.std.proofs.Common.{◌≡◌, ℕ, ◌+◌, ◌-◌, ◌<◌, ◌≤◌, nat_le, true, leb-true, arith, ap, ◌∙◌, List, length, slice_index_or}
 use Rattle.std.proofs.lemmas.List.FromFn.{get_or-map-range_with_len, length-map-range_with_len}
+use Rattle.sm_lists.proofs.BoolLemmas.{first_true, second_true}
 use Rattle.sm_agents.specs.Written.{Written}
 use Rattle.sm_report.specs.declared.lines.Seat.{Seat}
 use Rattle.sm_check_forms.specs.Seats.{is_seat}
 use Rattle.sm_seats.specs.SeatMarket.{seat_count, seats_before, seat_market}
 use Rattle.sm_seats.specs.Counted.{first_seats_of}
-use Rattle.sm_check_forms.proofs.TakingLemmas.{and_left, and_right}
 use Rattle.sm_seats.proofs.SeatLemmas.{seats_before_more, seats_end, length-reviewers}
 
 module _ (w : Written) (firsts : List ℕ) (e : firsts ≡ first_seats_of w) (r : ℕ) (h : r < length w.reviewers) where
@@ -37,4 +37,4 @@ module _ (w : Written) (firsts : List ℕ) (e : firsts ≡ first_seats_of w) (r 
 
 -- the bounds of a seat's number
 pub seat_bounds : (w : Written) (seat : Seat) → is_seat w seat ≡ true → (1 ≤ seat.number) × (seat.number ≤ seat_count w seat.reviewer)
-seat_bounds w seat e = (leb-true _ _ (and_left (nat_le 1 seat.number) (nat_le seat.number (seat_count w seat.reviewer)) e), leb-true _ _ (and_right (nat_le 1 seat.number) (nat_le seat.number (seat_count w seat.reviewer)) e))
+seat_bounds w seat e = (leb-true _ _ (first_true (nat_le 1 seat.number) (nat_le seat.number (seat_count w seat.reviewer)) e), leb-true _ _ (second_true (nat_le 1 seat.number) (nat_le seat.number (seat_count w seat.reviewer)) e))

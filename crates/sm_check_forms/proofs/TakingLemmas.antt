@@ -1,12 +1,13 @@
 -- Which lines may stand behind some lines of an answer.
 use Rattle.std.proofs.Common.{◌≡◌, ◌≢◌, ℕ, suc, ◌+◌, ◌-◌, ◌≤◌, ◌∙◌, arith, refl, sym, ap, subst, inl, inr, true, false, Bool, All, List, [], ◌∷◌, ◌++◌, length, map, take, if◌then◌else◌}
-use Rattle.std.specs.Prelude.{◌&&◌, filter_map}
+use Rattle.std.specs.Prelude.{filter_map}
 use Rattle.std.specs.List.{list_all}
 use Rattle.std.proofs.lemmas.List.{append_assoc, append-nil, map-append, length-map, length-append}
 use Rattle.std.proofs.lemmas.List.Elements.{All-append, All-cons, All-head, All-tail}
-use Rattle.std.proofs.lemmas.Bool.{false≢true}
+use Rattle.std.proofs.lemmas.Bool.{false≢true, and_from}
 use Rattle.std.proofs.Math.Seq.{take-append_seam}
 use Rattle.sm_text.specs.Lines.{lines}
+use Rattle.sm_lists.proofs.BoolLemmas.{first_true, second_true}
 use Rattle.sm_instance.specs.Inputs.{IsInput}
 use Rattle.sm_instance.specs.declared.inputs.Input.{Input}
 use Rattle.sm_report.specs.declared.lines.Line.{Line}
@@ -15,29 +16,28 @@ use Rattle.sm_report.specs.Sound.{IsLineOf}
 use Rattle.sm_report.specs.Reading.{HasText}
 use Rattle.sm_report.specs.Texts.{text_of_line}
 use Rattle.sm_report.proofs.ReadLemmas.{one_line}
-use Rattle.sm_check_forms.specs.declared.layouts.LayoutPart.{LayoutPart}
 use Rattle.sm_check_forms.specs.declared.answers.Answer.{Answer}
-use Rattle.sm_check_forms.specs.Layouts.{behind, left_behind, is_empty, is_begun, is_whole}
+use Rattle.sm_check_forms.specs.Layouts.{Part, behind, left_behind, is_empty, is_begun, is_whole}
 use Rattle.sm_check_forms.specs.Forms.{layouts_of, opening_of, fits, is_placed, AreFirstLines, AreAnswer, BeginAnAnswer, IsMisplaced}
 use Rattle.sm_check_forms.specs.Taking.{lines_in, HasLefts, IsSoFar, may_stand, Took, TakesLine, TookText, TakesText}
 use Rattle.sm_check_forms.proofs.LayoutLemmas.{left_behind-append}
 
 -- what is left behind one line more
-left_next : (layouts lefts next : List (List LayoutPart)) (lines : List LineData) (line : LineData) → lefts ≡ left_behind layouts (map opening_of lines)
-    → next ≡ filter_map (λ parts. behind parts (opening_of line)) lefts → next ≡ left_behind layouts (map opening_of (lines ++ line ∷ []))
-left_next layouts lefts next lines line is e =
-    e ∙ ap (filter_map (λ parts. behind parts (opening_of line))) is ∙ sym (left_behind-append layouts (map opening_of lines) (opening_of line ∷ []))
-    ∙ ap (left_behind layouts) (sym (map-append opening_of lines (line ∷ [])))
+left_next : (input : Input) (layouts lefts next : List (List Part)) (lines : List LineData) (line : LineData) → lefts ≡ left_behind layouts (map (opening_of input) lines)
+    → next ≡ filter_map (λ parts. behind parts (opening_of input line)) lefts → next ≡ left_behind layouts (map (opening_of input) (lines ++ line ∷ []))
+left_next input layouts lefts next lines line is e =
+    e ∙ ap (filter_map (λ parts. behind parts (opening_of input line))) is ∙ sym (left_behind-append layouts (map (opening_of input) lines) (opening_of input line ∷ []))
+    ∙ ap (left_behind layouts) (sym (map-append (opening_of input) lines (line ∷ [])))
 
 -- they are the layouts that go on behind the line
-pub lefts_next : (input : Input) (lines : List LineData) (lefts next : List (List LayoutPart)) (line : LineData) → lines ≢ [] → HasLefts input lines lefts
-    → next ≡ filter_map (λ parts. behind parts (opening_of line)) lefts → HasLefts input (lines ++ line ∷ []) next
+pub lefts_next : (input : Input) (lines : List LineData) (lefts next : List (List Part)) (line : LineData) → lines ≢ [] → HasLefts input lines lefts
+    → next ≡ filter_map (λ parts. behind parts (opening_of input line)) lefts → HasLefts input (lines ++ line ∷ []) next
 lefts_next input [] lefts next line some h e = absurd (some refl)
-lefts_next input (LineData.Answer head ∷ lines) lefts next line some h e = left_next (layouts_of input head) lefts next lines line h e
+lefts_next input (LineData.Answer head ∷ lines) lefts next line some h e = left_next input (layouts_of input head) lefts next lines line h e
 lefts_next input (_ ∷ lines) lefts next line some h e = absurd h
 
 -- while some layout is left the lines begin an answer
-pub begun_next : (input : Input) (lines : List LineData) (lefts : List (List LayoutPart)) → lines ≢ [] → HasLefts input lines lefts
+pub begun_next : (input : Input) (lines : List LineData) (lefts : List (List Part)) → lines ≢ [] → HasLefts input lines lefts
     → (if is_empty lefts then false else true) ≡ is_placed is_begun input lines
 begun_next input [] lefts some h = absurd (some refl)
 begun_next input (LineData.Answer head ∷ lines) lefts some h = ap (λ left. if is_empty left then false else true) h
@@ -53,28 +53,14 @@ pub not_empty : (items : List Line) → 1 ≤ length items → map line_of items
 not_empty [] h e = absurd (omega (arith, h))
 not_empty (x ∷ items) h e = cc
 
--- tests of several lines
-pub and_left : (a b : Bool) → (a && b) ≡ true → a ≡ true
-and_left true b e = refl
-and_left false b e = e
-
--- the second of two tests that pass passes
-pub and_right : (a b : Bool) → (a && b) ≡ true → b ≡ true
-and_right true b e = e
-and_right false b e = absurd (false≢true e)
-
-both : (a b : Bool) → a ≡ true → b ≡ true → (a && b) ≡ true
-both true b e f = f
-both false b e f = absurd (false≢true e)
-
 -- one more line that passes passes with those that do
 pub all_more : (p : LineData → Bool) (xs : List LineData) (x : LineData) → list_all p xs ≡ true → p x ≡ true → list_all p (xs ++ x ∷ []) ≡ true
-all_more p [] x h e = both (p x) true e refl
-all_more p (y ∷ xs) x h e = both (p y) (list_all p (xs ++ x ∷ [])) (and_left (p y) (list_all p xs) h) (all_more p xs x (and_right (p y) (list_all p xs) h) e)
+all_more p [] x h e = and_from (p x) true e refl
+all_more p (y ∷ xs) x h e = and_from (p y) (list_all p (xs ++ x ∷ [])) (first_true (p y) (list_all p xs) h) (all_more p xs x (second_true (p y) (list_all p xs) h) e)
 
 last_of_all : (p : LineData → Bool) (xs : List LineData) (x : LineData) → list_all p (xs ++ x ∷ []) ≡ true → p x ≡ true
-last_of_all p [] x h = and_left (p x) true h
-last_of_all p (y ∷ xs) x h = last_of_all p xs x (and_right (p y) (list_all p (xs ++ x ∷ [])) h)
+last_of_all p [] x h = first_true (p x) true h
+last_of_all p (y ∷ xs) x h = last_of_all p xs x (second_true (p y) (list_all p (xs ++ x ∷ [])) h)
 
 -- a text that no line that may stand there has, or one whose line was taken
 pub takes_text : (input : Input) → IsInput input → (before after : Answer) (line : LineData) (text : List ℕ) (taken : Bool)
@@ -117,8 +103,8 @@ taken_more input texts before after text rest t k =
     let front = lines_in before in
     let more = k.took.lines in
     let stands = k.took.stands in
-    let fit = and_left (fits input k.line) (is_placed is_begun input (front ++ k.line ∷ [])) stands in
-    let place = and_right (fits input k.line) (is_placed is_begun input (front ++ k.line ∷ [])) stands in
+    let fit = first_true (fits input k.line) (is_placed is_begun input (front ++ k.line ∷ [])) stands in
+    let place = second_true (fits input k.line) (is_placed is_begun input (front ++ k.line ∷ [])) stands in
     record {
       so_far = k.took.so_far;
       sound = subst (All (IsLineOf input)) (sym more)
@@ -214,7 +200,7 @@ module _ (input : Input) (h : IsInput input) (texts : List (List ℕ)) (answer :
               let fit = last_of_all (fits input) (lines_in answer) x (ap (list_all (fits input)) (sym is) ∙ f.fitting) in
               let place = ap (is_placed is_begun input) (sym is) ∙ f.placed in
               let has : HasText input text x = record { sound = All-head (IsLineOf input) x [] s; spelled = (let u : text ≡ text_of_line input x = cc in sym u) } in
-              false≢true (sym (cant x has) ∙ both (fits input x) (is_placed is_begun input (lines_in answer ++ x ∷ [])) fit place)
+              false≢true (sym (cant x has) ∙ and_from (fits input x) (is_placed is_begun input (lines_in answer ++ x ∷ [])) fit place)
 
   -- its text is the first that isn't of the form
   pub bad_line : (text : List ℕ) (rest : List (List ℕ)) → AreTaken input texts answer (text ∷ rest)

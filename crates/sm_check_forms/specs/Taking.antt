@@ -3,9 +3,8 @@ use Rattle.std.specs.Prelude.{◌≡◌, ℕ, ◌&&◌, Bool, true, false, List,
 use Rattle.sm_instance.specs.declared.inputs.Input.{Input}
 use Rattle.sm_report.specs.Lines.{LineData, line_of}
 use Rattle.sm_report.specs.Reading.{HasText}
-use Rattle.sm_check_forms.specs.declared.layouts.LayoutPart.{LayoutPart}
 use Rattle.sm_check_forms.specs.declared.answers.Answer.{Answer}
-use Rattle.sm_check_forms.specs.Layouts.{left_behind, is_begun}
+use Rattle.sm_check_forms.specs.Layouts.{Part, left_behind, is_begun}
 use Rattle.sm_check_forms.specs.Lefts.{layouts_left, AreRunning}
 use Rattle.sm_check_forms.specs.Forms.{layouts_of, opening_of, fits, is_placed}
 
@@ -14,9 +13,9 @@ abbrev pub lines_in : Answer → List LineData
 lines_in answer = map line_of answer.lines.items
 
 -- this is left of an answer's layouts behind its lines; behind none it is not known yet
-abbrev pub HasLefts : Input → List LineData → List (List LayoutPart) → Type 0
+abbrev pub HasLefts : Input → List LineData → List (List Part) → Type 0
 HasLefts input [] lefts = Unit {0}
-HasLefts input (LineData.Answer head ∷ lines) lefts = lefts ≡ left_behind (layouts_of input head) (map opening_of lines)
+HasLefts input (LineData.Answer head ∷ lines) lefts = lefts ≡ left_behind (layouts_of input head) (map (opening_of input) lines)
 HasLefts input _ lefts = ⊥
 
 -- what is known of an answer while its lines are taken

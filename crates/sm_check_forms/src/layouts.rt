@@ -5,10 +5,12 @@ ghost use Rattle.std.specs.List.{list_any};
 ghost use Rattle.sm_instance.specs.declared.inputs.Input.TheVariants.{Two, Room};
 ghost use Rattle.sm_report.specs.Heads.{head_of};
 ghost use Rattle.sm_report.specs.Lines.{line_of};
-ghost use Rattle.sm_check_forms.specs.Keywords.{is_same};
-ghost use Rattle.sm_check_forms.specs.Layouts.{behind, keyword_at, later, is_empty};
+ghost use Rattle.std.specs.Str.{bytes_eq};
+ghost use Rattle.sm_instance.specs.declared.inputs.Input.{Input};
+ghost use Rattle.sm_check_forms.specs.Keywords.{word_of};
+ghost use Rattle.sm_check_forms.specs.Layouts.{behind, word_at, later, is_empty};
 ghost use Rattle.sm_check_forms.specs.Forms.{opening_of, number_in, layouts_of, layouts_of_two, layouts_of_room};
-ghost use Rattle.sm_check_forms.specs.Lefts.{IsFit, IsTurn, AreTurns, IsTakenAt, IsRunning, AreRunning, layout_left, layouts_left};
+ghost use Rattle.sm_check_forms.specs.Lefts.{part_of, parts_of, opening_by, IsFit, IsTurn, AreTurns, IsTakenAt, IsRunning, AreRunning, layout_left, layouts_left};
 
 use sm_instance::{Input, Instance};
 use sm_report::{Head, Keyword, Line, keyword_of};
@@ -47,7 +49,8 @@ pub struct Opening {
 
 /// How a line begins.
 pub(crate) fn opening_of(line: &Line) -> Opening
-    ensures { result ≡ opening_of (line_of line.now) }
+    ensures opening { (input : Input) → opening_by result ≡ opening_of input (line_of line.now) }
+    ensures number { result.number ≡ number_in (line_of line.now) }
 {
     Opening {
         keyword: keyword_of(line),
@@ -69,8 +72,9 @@ fn number_in(line: &Line) -> u32
 }
 
 /// The keyword of the line at a place of a block.
+#[tactic(auto, unfolding(crate::specs::Keywords::word_of))]
 fn keyword_at(place: u32) -> Keyword
-    ensures { result ≡ keyword_at place }
+    ensures { word_of result ≡ word_at place }
 {
     if place == 0 {
         Keyword::Rotation
@@ -85,7 +89,7 @@ fn keyword_at(place: u32) -> Keyword
 
 /// Whether two keywords are one.
 fn is_same(a: Keyword, b: Keyword) -> bool
-    ensures { result ≡ is_same a b }
+    ensures { result ≡ bytes_eq (word_of a) (word_of b) }
 {
     a == b
 }
@@ -125,7 +129,7 @@ enum Fit {
 
 /// What a part does with a line.
 fn fit_part(part: LayoutPart, line: Opening) -> Fit
-    ensures { IsFit part line result }
+    ensures { IsFit (part_of part) (opening_by line) result }
 {
     match part {
         LayoutPart::One(word) => if is_same(line.keyword, word) {
@@ -144,7 +148,7 @@ fn fit_part(part: LayoutPart, line: Opening) -> Fit
 
 /// What blocks do with it.
 fn fit_block(turn: BlockTurn, line: Opening) -> Fit
-    ensures { IsFit (LayoutPart.Blocks turn) line result }
+    ensures { IsFit (part_of (LayoutPart.Blocks turn)) (opening_by line) result }
 {
     if is_same(line.keyword, keyword_at(turn.place)) {
         if line.number == turn.number {
@@ -165,8 +169,8 @@ fn fit_block(turn: BlockTurn, line: Opening) -> Fit
 fn taking_part(parts: &[LayoutPart], from: usize, line: Opening) -> Option<usize>
     requires { from ≤ length parts.now }
     ensures { MatchOption result
-        (behind (drop from parts.now) line ≡ None)
-        (λ at. IsTakenAt parts.now from line at) }
+        (behind (parts_of (drop from parts.now)) (opening_by line) ≡ None)
+        (λ at. IsTakenAt parts.now from (opening_by line) at) }
 {
     for at in from..parts.len() {
         match fit_part(parts[at], line) {
@@ -190,7 +194,7 @@ impl Layout {
     /// A layout of which all is left.
     fn of(parts: Vec<LayoutPart>) -> Layout
         requires { AreTurns parts.items }
-        ensures left { layout_left result ≡ parts.items ∷ [] }
+        ensures left { layout_left result ≡ parts_of parts.items ∷ [] }
         ensures running { IsRunning result }
     {
         Layout {
@@ -216,7 +220,7 @@ impl Layout {
     fn take(&mut self, line: Opening)
         requires running { IsRunning self.old }
         requires number { line.number ≤ 4294967294 }
-        ensures left { layout_left self.new ≡ filter_map (λ parts. behind parts line)
+        ensures left { layout_left self.new ≡ filter_map (λ parts. behind parts (opening_by line))
             (layout_left self.old) }
         ensures running { IsRunning self.new }
     {
@@ -233,9 +237,9 @@ impl Layout {
     fn take_at(&mut self, at: usize, line: Opening)
         requires running { IsRunning self.old }
         requires number { line.number ≤ 4294967294 }
-        requires taken { IsTakenAt self.old.parts.items self.old.at line at }
+        requires taken { IsTakenAt self.old.parts.items self.old.at (opening_by line) at }
         requires fits { self.old.fits ≡ true }
-        ensures left { layout_left self.new ≡ filter_map (λ parts. behind parts line)
+        ensures left { layout_left self.new ≡ filter_map (λ parts. behind parts (opening_by line))
             (layout_left self.old) }
         ensures running { IsRunning self.new }
     {
@@ -297,7 +301,7 @@ impl Places {
     pub(crate) fn take(&mut self, line: Opening)
         requires running { AreRunning self.old }
         requires number { line.number ≤ 4294967294 }
-        ensures left { layouts_left self.new ≡ filter_map (λ parts. behind parts line)
+        ensures left { layouts_left self.new ≡ filter_map (λ parts. behind parts (opening_by line))
             (layouts_left self.old) }
         ensures running { AreRunning self.new }
     {
@@ -322,6 +326,7 @@ impl Places {
 }
 
 /// Those over an instance with two sides.
+#[tactic(auto, unfolding(crate::specs::Keywords::word_of))]
 fn places_of_two(alloc: Global, instance: &Instance, head: &Head) -> Result<Places, AllocError>
     ensures left { IfOk result (λ places. layouts_left places
         ≡ layouts_of_two instance.now (head_of head.now)) }
@@ -353,6 +358,7 @@ fn places_of_two(alloc: Global, instance: &Instance, head: &Head) -> Result<Plac
 }
 
 /// Those over one of roommates.
+#[tactic(auto, unfolding(crate::specs::Keywords::word_of))]
 fn places_of_room(alloc: Global, head: &Head) -> Result<Places, AllocError>
     ensures left { IfOk result (λ places. layouts_left places ≡ layouts_of_room (head_of head.now)) }
     ensures running { IfOk result (λ places. AreRunning places) }
@@ -369,7 +375,7 @@ fn places_of_room(alloc: Global, head: &Head) -> Result<Places, AllocError>
 /// A single layout, of these parts.
 fn only(alloc: Global, parts: &[LayoutPart]) -> Result<Places, AllocError>
     requires { AreTurns parts.now }
-    ensures left { IfOk result (λ places. layouts_left places ≡ parts.now ∷ []) }
+    ensures left { IfOk result (λ places. layouts_left places ≡ parts_of parts.now ∷ []) }
     ensures running { IfOk result (λ places. AreRunning places) }
 {
     Ok(Places {
@@ -479,7 +485,7 @@ static GIVEN: [LayoutPart; 4] = [
 /// A layout of these parts.
 fn laid(alloc: Global, parts: &[LayoutPart]) -> Result<Layout, AllocError>
     requires { AreTurns parts.now }
-    ensures left { IfOk result (λ layout. layout_left layout ≡ parts.now ∷ []) }
+    ensures left { IfOk result (λ layout. layout_left layout ≡ parts_of parts.now ∷ []) }
     ensures running { IfOk result (λ layout. IsRunning layout) }
 {
     let mut kept = Vec::new(alloc);

@@ -9,9 +9,8 @@ use Rattle.sm_lists.specs.Rows.{row}
 use Rattle.sm_lists.proofs.Counting.{eq_or_ne, lt_or_le}
 use Rattle.sm_market.specs.Lists.{Lists}
 use Rattle.sm_market.specs.Matching.{Places, held}
-use Rattle.sm_theory.specs.Chains.{rotation_at}
 use Rattle.sm_theory.specs.Weights.{gain_of}
-use Rattle.sm_theory.specs.Net.{room_of, IsUnbounded}
+use Rattle.sm_theory.specs.Net.{Net, room_of, IsUnbounded}
 use Rattle.sm_theory.specs.Conditions.{has_level, moves_to, moves_off, entry_node, exit_node, forces, forbids, leads_to_need, rise_of, net_of}
 use Rattle.sm_theory.proofs.Net.Tests.{and_parts, or_parts, some_passes}
 use Rattle.sm_check_net.specs.CheckedNets.{AreNumbersBelow}
@@ -55,9 +54,29 @@ need_below n needs long below (suc k) (suc x) h =
       | inr past ↦ let none : row needs k ≡ [] = get_or_past needs k [] past in absurd (omega (arith, ap length none, less))
     ]
 
+-- a room leads between nodes, where there is none behind the last rotation
+pub rooms_on_nodes : (net : Net) → ((k : ℕ) → net.size ≤ k → net.drain k ≡ 0) → (i j : ℕ) → 0 < room_of net i j → (i < net.size + 2) × (j < net.size + 2)
+rooms_on_nodes net dry zero zero some = absurd (omega arith)
+rooms_on_nodes net dry (suc i) zero some = absurd (omega arith)
+rooms_on_nodes net dry zero (suc k) some = elim (lt_or_le k net.size) [
+  | inl less ↦ (omega arith, omega arith)
+  | inr past ↦ absurd (let none : 0 < 0 = rw (le-ltb k net.size past) at some in omega arith)
+]
+rooms_on_nodes net dry (suc i) (suc k) some = elim (eq_or_ne k net.size) [
+  | inr ne ↦ absurd (let none : 0 < 0 = rw (ne_eqb k net.size ne) at some in omega arith)
+  | inl e ↦ elim (lt_or_le i net.size) [
+    | inl less ↦ (omega arith, omega (arith, e))
+    | inr past ↦ absurd (let left : 0 < net.drain i = rw (eq-eqb k net.size e) at some in omega (arith, dry i past, left))
+  ]
+]
+
 -- the law that these edges lead between nodes
 pub edges_are_on_nodes : EdgesAreOnNodes
-edges_are_on_nodes l levels weights forced forbidden first rotations needs long below i j edge = elim edge [ inl u ↦ by_unbounded i j u | inr room ↦ by_room i j room ]
+edges_are_on_nodes l levels weights forced forbidden first rotations needs long below i j edge = elim edge [
+  | inl u ↦ by_unbounded i j u
+  | inr room ↦ rooms_on_nodes (net_of l levels weights forced forbidden first rotations needs)
+      (λ k past. ap (λ rotation. rise_of (gain_of l weights rotation)) (get_or_past rotations k [] past)) i j room
+]
   where
     by_unbounded : (i j : ℕ) → IsUnbounded (net_of l levels weights forced forbidden first rotations needs) i j → (i < length rotations + 2) × (j < length rotations + 2)
     by_unbounded i zero u = absurd (false≢true u)
@@ -71,19 +90,3 @@ edges_are_on_nodes l levels weights forced forbidden first rotations needs long 
             | inr f ↦ let w = some_passes (λ c. forbids l levels first rotations c i (suc j)) forbidden (0, 0) f in forbidden_below l levels first rotations (get_or forbidden w.at (0, 0)) i (suc j) w.holds
           ]
         ]
-
-    by_room : (i j : ℕ) → 0 < room_of (net_of l levels weights forced forbidden first rotations needs) i j → (i < length rotations + 2) × (j < length rotations + 2)
-    by_room zero zero some = absurd (omega arith)
-    by_room (suc i) zero some = absurd (omega arith)
-    by_room zero (suc k) some = elim (lt_or_le k (length rotations)) [
-      | inl less ↦ (omega arith, omega arith)
-      | inr past ↦ absurd (let none : 0 < 0 = rw (le-ltb k (length rotations) past) at some in omega arith)
-    ]
-    by_room (suc i) (suc k) some = elim (eq_or_ne k (length rotations)) [
-      | inr ne ↦ absurd (let none : 0 < 0 = rw (ne_eqb k (length rotations) ne) at some in omega arith)
-      | inl e ↦ elim (lt_or_le i (length rotations)) [
-        | inl less ↦ (omega arith, omega (arith, e))
-        | inr past ↦ absurd (let left : 0 < rise_of (gain_of l weights (rotation_at rotations i)) = rw (eq-eqb k (length rotations) e) at some in
-            let dry : rise_of (gain_of l weights (rotation_at rotations i)) ≡ 0 = ap (λ rotation. rise_of (gain_of l weights rotation)) (get_or_past rotations i [] past) in omega (arith, dry, left))
-      ]
-    ]

@@ -3,6 +3,7 @@ use Rattle.std.proofs.Common.{◌≡◌, ℕ, ◌+◌, List, [], ◌∷◌, leng
 use Rattle.std.specs.Prelude.{filter_map, not, slice_index_or, IfSome}
 use Rattle.std.specs.List.{list_all, cons_option, slice_get}
 use Rattle.std.proofs.lemmas.Bool.{false≢true}
+use Rattle.sm_lists.proofs.BoolLemmas.{first_true, second_true}
 use Rattle.sm_agents.specs.Written.{Written}
 use Rattle.sm_agents.specs.declared.kinds.Measure.{Measure}
 use Rattle.sm_theory.specs.FlowLines.{AreOnNodes}
@@ -13,7 +14,6 @@ use Rattle.sm_check_net.specs.Repeats.{AreRepeats}
 use Rattle.sm_seats.specs.SeatMarket.{seat_market}
 use Rattle.sm_report.specs.Lines.{LineData}
 use Rattle.sm_check_forms.specs.Layouts.{is_empty}
-use Rattle.sm_check_forms.proofs.TakingLemmas.{and_left, and_right}
 use Rattle.sm_check_clauses.specs.Said.{rotations_in, flow_in, second_flow_in, taken_in, value_in, second_value_in, pair_in, pairs_in, is_up_to_rotations}
 use Rattle.sm_check_clauses.specs.SeatMatchings.{first_of}
 use Rattle.sm_check_clauses.specs.Flows.{size_in, net_in, on_nodes, second_level}
@@ -44,8 +44,8 @@ up_to_unsaid _ e = absurd (false≢true e)
 unsaid : {X : Type 0} (said : LineData → Option X) → ((x : LineData) → is_up_to_rotations x ≡ true → said x ≡ None) → (above : List LineData) → list_all is_up_to_rotations above ≡ true → filter_map said above ≡ []
 unsaid said none [] e = refl
 unsaid {X} said none (x ∷ above) e =
-    ap (λ (o : Option X). cons_option o (filter_map said above)) (none x (and_left (is_up_to_rotations x) (list_all is_up_to_rotations above) e))
-    ∙ unsaid said none above (and_right (is_up_to_rotations x) (list_all is_up_to_rotations above) e)
+    ap (λ (o : Option X). cons_option o (filter_map said above)) (none x (first_true (is_up_to_rotations x) (list_all is_up_to_rotations above) e))
+    ∙ unsaid said none above (second_true (is_up_to_rotations x) (list_all is_up_to_rotations above) e)
 
 module _ (above : List LineData) (up_to : list_all is_up_to_rotations above ≡ true) where
   -- they say no set

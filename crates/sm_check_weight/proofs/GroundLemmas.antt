@@ -3,11 +3,11 @@ use Rattle.std.proofs.Common.{◌≡◌, ℕ, List, [], ◌∷◌, ◌++◌, len
 use Rattle.std.specs.Prelude.{IfSome, IsSome}
 use Rattle.std.specs.List.{list_all}
 use Rattle.std.proofs.lemmas.Bool.{false≢true}
+use Rattle.sm_lists.proofs.BoolLemmas.{first_true, second_true}
 use Rattle.sm_agents.specs.Written.{Written}
 use Rattle.sm_seats.specs.SeatMarket.{seat_market}
 use Rattle.sm_report.specs.Heads.{HeadData}
 use Rattle.sm_report.specs.Lines.{LineData}
-use Rattle.sm_check_forms.proofs.TakingLemmas.{and_left, and_right}
 use Rattle.sm_check_clauses.specs.Judges.{IsOwnLine}
 use Rattle.sm_check_clauses.specs.Judging.{Subject, answer}
 use Rattle.sm_check_clauses.specs.Said.{first_in, rotation_in, rotations_in, all_needs_in, is_up_to_firsts, is_up_to_rotations}
@@ -33,8 +33,8 @@ one_instance v w head e = ap (instance_in w) e
 
 -- the last of lines that all pass a test
 last_passes : (p : LineData → Bool) (above : List LineData) (x : LineData) → list_all p (above ++ x ∷ []) ≡ true → p x ≡ true
-last_passes p [] x e = and_left (p x) true e
-last_passes p (y ∷ above) x e = last_passes p above x (and_right (p y) (list_all p (above ++ x ∷ [])) e)
+last_passes p [] x e = first_true (p x) true e
+last_passes p (y ∷ above) x e = last_passes p above x (second_true (p y) (list_all p (above ++ x ∷ [])) e)
 
 -- not all lines are up to the rotations where the last isn't
 pub not_all : (above : List LineData) (x : LineData) → is_up_to_rotations x ≡ false → list_all is_up_to_rotations (above ++ x ∷ []) ≡ false

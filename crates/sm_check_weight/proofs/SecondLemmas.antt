@@ -1,30 +1,32 @@
 -- The second net of the lines of an answer.
-use Rattle.std.proofs.Common.{◌≡◌, ℕ, zero, suc, ◌+◌, ◌<◌, ◌∙◌, inl, inr, arith, sym, ap, List, [], length, map, not, ℤ, pos, eq-eqb, ne_eqb}
+use Rattle.std.proofs.Common.{◌≡◌, ℕ, zero, suc, ◌+◌, ◌<◌, ◌∙◌, inl, inr, arith, sym, ap, true, List, [], length, map, not, ℤ, pos, eq-eqb, ne_eqb}
 use Rattle.std.specs.Prelude.{◌==◌, ◌&&◌, if◌then◌else◌}
 use Rattle.std.proofs.lemmas.Bool.{false≢true}
 use Rattle.std.proofs.lemmas.List.{get_or-map, get_or_past, length-map}
 use Rattle.sm_lists.proofs.Counting.{eq_or_ne, lt_or_le}
 use Rattle.sm_agents.specs.Written.{Written}
 use Rattle.sm_agents.specs.declared.kinds.Measure.{Measure}
+use Rattle.sm_instance.specs.Ranks.{pair_second}
 use Rattle.sm_market.specs.Lists.{Lists}
 use Rattle.sm_market.specs.Matching.{Places}
 use Rattle.sm_theory.specs.Chains.{rotation_at}
 use Rattle.sm_theory.specs.Weights.{gain_of}
-use Rattle.sm_theory.specs.Net.{Net, sink_of, room_of, HasEdge, IsUnbounded}
+use Rattle.sm_theory.specs.Net.{Net, sink_of, HasEdge, IsUnbounded}
 use Rattle.sm_theory.specs.FlowLines.{amount_on, line_at, AreOnNodes}
-use Rattle.sm_theory.specs.Conditions.{net_of}
+use Rattle.sm_theory.specs.Conditions.{rise_of}
 use Rattle.sm_theory.specs.Flows.{is_residual_step}
 use Rattle.sm_theory.specs.SecondNets.{second_net}
 use Rattle.sm_theory.specs.declared.flow_lines.FlowLine.{FlowLine}
 use Rattle.sm_theory.proofs.Flow.Steps.{step_kind}
 use Rattle.sm_theory.proofs.Net.Tests.{and_parts}
 use Rattle.sm_seats.specs.SeatMarket.{seat_market}
-use Rattle.sm_seats.specs.Seating.{seating_of, levels_of}
-use Rattle.sm_seats.specs.Levels.{seconds_by}
-use Rattle.sm_seats.specs.ShownNet.{net_shown, second_net_shown}
+use Rattle.sm_seats.specs.Seating.{seating_of}
+use Rattle.sm_seats.specs.Levels.{has_two_levels, seconds_by}
+use Rattle.sm_seats.specs.ShownNet.{gain_by, net_shown, second_net_shown}
+use Rattle.sm_seats.proofs.GainLemmas.{IsOnLists, second_gain_at_is}
 use Rattle.sm_report.specs.Lines.{LineData}
 use Rattle.sm_check_net.specs.CheckedNets.{NetParts, net_of_parts, gain_at, AreNumbersBelow}
-use Rattle.sm_check_net.proofs.EdgeLemmas.{edges_are_on_nodes}
+use Rattle.sm_check_net.proofs.EdgeLemmas.{rooms_on_nodes}
 use Rattle.sm_check_net.proofs.ResidualLemmas.{has_part}
 use Rattle.sm_check_clauses.specs.Flows.{net_in, second_level}
 use Rattle.sm_check_clauses.specs.Said.{rotations_in, flow_in}
@@ -50,7 +52,11 @@ amount_on_nodes n lines on i j some =
 pub second_edges_on_nodes : (by : Measure) (w : Written) (first : Places) (rotations : List (List (ℕ × ℕ))) (needs : List (List ℕ)) (lines : List FlowLine)
     → length needs ≡ length rotations → AreNumbersBelow (length rotations) needs → AreOnNodes (length rotations + 2) lines → (i j : ℕ)
     → HasEdge (second_net_shown by w first rotations needs (amount_on lines)) i j → (i < length rotations + 2) × (j < length rotations + 2)
-second_edges_on_nodes by w first rotations needs lines long below on i j edge = elim edge [ inl u ↦ by_step i j u | inr room ↦ by_room i j room ]
+second_edges_on_nodes by w first rotations needs lines long below on i j edge = elim edge [
+  | inl u ↦ by_step i j u
+  | inr room ↦ rooms_on_nodes (second_net_shown by w first rotations needs (amount_on lines))
+      (λ k past. ap (λ rotation. rise_of (gain_by (pair_second w) (seating_of w) rotation)) (get_or_past rotations k [] past)) i j room
+]
   where
     net : Net
     net = net_shown by w first rotations needs
@@ -67,16 +73,6 @@ second_edges_on_nodes by w first rotations needs lines long below on i j edge = 
           ]
         ]
 
-    -- its rooms are those of a net of the second weights
-    second_room : (i j : ℕ) → HasEdge (net_of (seat_market w) (levels_of (seating_of w)) (seconds_by by w (seating_of w)) [] [] first rotations needs) i j → (i < length rotations + 2) × (j < length rotations + 2)
-    second_room = edges_are_on_nodes (seat_market w) (levels_of (seating_of w)) (seconds_by by w (seating_of w)) [] [] first rotations needs long below
-
-    by_room : (i j : ℕ) → 0 < room_of (second_net_shown by w first rotations needs (amount_on lines)) i j → (i < length rotations + 2) × (j < length rotations + 2)
-    by_room zero zero some = absurd (omega arith)
-    by_room (suc i) zero some = absurd (omega arith)
-    by_room zero (suc k) some = second_room zero (suc k) (inr some)
-    by_room (suc i) (suc k) some = second_room (suc i) (suc k) (inr some)
-
 -- gains that are made one after another are those of the rotations
 gains_at : (l : Lists) (seconds : List (List ℤ)) (rotations : List (List (ℕ × ℕ))) (k : ℕ) → gain_at (map (gain_of l seconds) rotations) k ≡ gain_of l seconds (rotation_at rotations k)
 gains_at l seconds rotations k = elim (lt_or_le k (length rotations)) [
@@ -86,10 +82,12 @@ gains_at l seconds rotations k = elim (lt_or_le k (length rotations)) [
 
 -- the net that is made of the first one, the lines of the flow and the second gains
 pub second_is : (w : Written) (by : Measure) (above : List LineData) (first second : NetParts) (lines : List FlowLine) (gains : List ℤ) → net_of_parts first ≡ net_in w by above → lines ≡ flow_on w flow_in above
+    → has_two_levels by w ≡ true → ((k : ℕ) → k < length (rotations_in w above) → IsOnLists (seat_market w) (rotation_at (rotations_in w above) k))
     → gains ≡ map (gain_of (seat_market w) (seconds_by by w (seating_of w))) (rotations_in w above) → net_of_parts second ≡ second_net (net_of_parts first) (amount_on lines) (gain_at gains) → net_of_parts second ≡ (second_level w by above).net
-second_is w by above first second lines gains n f g made =
+second_is w by above first second lines gains n f two on g made =
     made
     ∙ ap (λ (net : Net). second_net net (amount_on lines) (gain_at gains)) n
     ∙ ap (λ (fs : List FlowLine). second_net (net_in w by above) (amount_on fs) (gain_at gains)) f
     ∙ ap (λ (gs : List ℤ). second_net (net_in w by above) (amount_on (flow_on w flow_in above)) (gain_at gs)) g
     ∙ (λ t. second_net (net_in w by above) (amount_on (flow_on w flow_in above)) (λ k. gains_at (seat_market w) (seconds_by by w (seating_of w)) (rotations_in w above) k t))
+    ∙ sym (λ t. second_net (net_in w by above) (amount_on (flow_on w flow_in above)) (λ k. second_gain_at_is by w (seating_of w) two (rotations_in w above) on k t))

@@ -1,21 +1,22 @@
 -- The edges of the net that is shown lead between its nodes.
-use Rattle.std.proofs.Common.{◌≡◌, ℕ, zero, suc, ◌+◌, ◌<◌, ◌≤◌, inl, inr, arith, Bool, true, false, not, List, [], length, get_or, eqb-true}
+use Rattle.std.proofs.Common.{◌≡◌, ℕ, zero, suc, ◌+◌, ◌<◌, ◌≤◌, inl, inr, arith, ap, Bool, true, false, not, List, [], length, get_or, eqb-true}
 use Rattle.std.specs.Prelude.{◌==◌, ◌&&◌, ◌||◌, if◌then◌else◌}
 use Rattle.std.specs.List.{list_any, position_or_len}
 use Rattle.std.proofs.lemmas.Bool.{false≢true, and_from, or_left}
+use Rattle.std.proofs.lemmas.List.{get_or_past}
 use Rattle.std.proofs.lemmas.List.Sums.{prefix_len-le-length}
 use Rattle.sm_agents.specs.Written.{Written}
 use Rattle.sm_agents.specs.declared.kinds.Measure.{Measure}
+use Rattle.sm_instance.specs.Ranks.{pair_weight}
 use Rattle.sm_market.specs.Matching.{Places, held}
 use Rattle.sm_theory.specs.Net.{HasEdge, IsUnbounded}
-use Rattle.sm_theory.specs.Conditions.{leads_to_need, net_of}
+use Rattle.sm_theory.specs.Conditions.{leads_to_need, rise_of, net_of}
 use Rattle.sm_theory.proofs.Net.Tests.{and_parts, or_parts, some_passes}
 use Rattle.sm_check_net.specs.CheckedNets.{AreNumbersBelow}
-use Rattle.sm_check_net.proofs.EdgeLemmas.{edges_are_on_nodes}
+use Rattle.sm_check_net.proofs.EdgeLemmas.{rooms_on_nodes, edges_are_on_nodes}
 use Rattle.sm_seats.specs.SeatMarket.{seat_market}
 use Rattle.sm_seats.specs.Seating.{Seating, seating_of, levels_of}
-use Rattle.sm_seats.specs.Correspondence.{weights_of}
-use Rattle.sm_seats.specs.ShownNet.{is_at_seat_of, enters, leaves, entry_node, exit_node, forces, forbids, net_shown}
+use Rattle.sm_seats.specs.ShownNet.{is_at_seat_of, enters, leaves, entry_node, exit_node, forces, forbids, gain_by, net_shown}
 
 module _ (s : Seating) (first : Places) (rotations : List (List (ℕ × ℕ))) where
   entry_below : (pair : ℕ × ℕ) → entry_node s first rotations pair < length rotations + 2
@@ -44,11 +45,15 @@ module _ (s : Seating) (first : Places) (rotations : List (List (ℕ × ℕ))) w
 -- the edges of the net
 pub shown_edges_on_nodes : (by : Measure) (w : Written) (first : Places) (rotations : List (List (ℕ × ℕ))) (needs : List (List ℕ)) → length needs ≡ length rotations → AreNumbersBelow (length rotations) needs → (i j : ℕ)
     → HasEdge (net_shown by w first rotations needs) i j → (i < length rotations + 2) × (j < length rotations + 2)
-shown_edges_on_nodes by w first rotations needs long below i j edge = elim edge [ inl u ↦ by_unbounded i j u | inr room ↦ plain i j (inr room) ]
+shown_edges_on_nodes by w first rotations needs long below i j edge = elim edge [
+  | inl u ↦ by_unbounded i j u
+  | inr room ↦ rooms_on_nodes (net_shown by w first rotations needs)
+      (λ k past. ap (λ rotation. rise_of (gain_by (pair_weight by w) (seating_of w) rotation)) (get_or_past rotations k [] past)) i j room
+]
   where
-    -- the needs and the rooms are those of the net by levels, here without conditions
-    plain : (i j : ℕ) → HasEdge (net_of (seat_market w) (levels_of (seating_of w)) (weights_of by w (seating_of w)) [] [] first rotations needs) i j → (i < length rotations + 2) × (j < length rotations + 2)
-    plain = edges_are_on_nodes (seat_market w) (levels_of (seating_of w)) (weights_of by w (seating_of w)) [] [] first rotations needs long below
+    -- the needs are those of the net by levels, here without conditions and weights
+    plain : (i j : ℕ) → HasEdge (net_of (seat_market w) (levels_of (seating_of w)) [] [] [] first rotations needs) i j → (i < length rotations + 2) × (j < length rotations + 2)
+    plain = edges_are_on_nodes (seat_market w) (levels_of (seating_of w)) [] [] [] first rotations needs long below
 
     by_unbounded : (i j : ℕ) → IsUnbounded (net_shown by w first rotations needs) i j → (i < length rotations + 2) × (j < length rotations + 2)
     by_unbounded i zero u = absurd (false≢true u)

@@ -16,8 +16,8 @@ use Rattle.sm_answer_rotations.proofs.RotationLemmas.{given_is}
 use Rattle.sm_check_forms.specs.declared.layouts.LayoutPart.{LayoutPart}
 use Rattle.sm_check_forms.specs.declared.layouts.LayoutPart.TheVariants.{Blocks}
 use Rattle.sm_check_forms.specs.declared.layouts.Opening.{Opening}
-use Rattle.sm_check_forms.specs.Layouts.{left_behind, is_empty, is_whole}
-use Rattle.sm_check_forms.specs.Forms.{opening_of, closing}
+use Rattle.sm_check_forms.proofs.KeywordLayouts.{left_behind, is_whole, opening_of, closing}
+use Rattle.sm_check_forms.specs.Layouts.{is_empty}
 use Rattle.sm_check_clauses.specs.declared.verdicts.Reason.{Reason}
 use Rattle.sm_check_clauses.proofs.LinewiseLemmas.{hold_append}
 use Rattle.sm_law_agree.proofs.LineLemmas.{Held, pass_append}

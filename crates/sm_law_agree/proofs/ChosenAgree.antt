@@ -17,8 +17,8 @@ use Rattle.sm_answer_given.specs.Chosen.{chosen_lines}
 use Rattle.sm_answer_given.proofs.ChosenLemmas.{lines_sound}
 use Rattle.sm_report.specs.declared.keywords.Keyword.TheVariants as keyword
 use Rattle.sm_check_forms.specs.declared.layouts.LayoutPart.TheVariants.{One, Many}
-use Rattle.sm_check_forms.specs.Layouts.{is_whole}
-use Rattle.sm_check_forms.specs.Forms.{fits, opening_of, closing, given_layout}
+use Rattle.sm_check_forms.proofs.KeywordLayouts.{is_whole, opening_of, closing, given_layout}
+use Rattle.sm_check_forms.specs.Forms.{fits}
 use Rattle.sm_check_clauses.specs.declared.verdicts.Reason.{Reason}
 use Rattle.sm_check_clauses.specs.declared.verdicts.Reason.TheVariants as reason
 use Rattle.sm_check_clauses.specs.Said.{pair_in, pairs_in, left_in, lefts_in, right_in, rights_in}

@@ -20,8 +20,8 @@ use Rattle.sm_answer_roommates.specs.RoomAnswer.{couple_with, couple_line, coupl
 use Rattle.sm_answer_roommates.proofs.LineLemmas.{couples_sound}
 use Rattle.sm_report.specs.declared.keywords.Keyword.TheVariants as keyword
 use Rattle.sm_check_forms.specs.declared.layouts.LayoutPart.TheVariants.{One}
-use Rattle.sm_check_forms.specs.Layouts.{is_whole}
-use Rattle.sm_check_forms.specs.Forms.{opening_of, fits, is_placed, solve_layout, parties_layout}
+use Rattle.sm_check_forms.proofs.KeywordLayouts.{is_whole, opening_of, is_placed, solve_layout, parties_layout}
+use Rattle.sm_check_forms.specs.Forms.{fits}
 use Rattle.sm_holding.specs.Held.{partner_in}
 use Rattle.sm_check_clauses.specs.declared.verdicts.Reason.{Reason}
 use Rattle.sm_check_clauses.specs.declared.verdicts.Reason.TheVariants as reason

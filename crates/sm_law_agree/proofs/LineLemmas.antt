@@ -13,8 +13,9 @@ use Rattle.sm_report.specs.declared.keywords.Keyword.{Keyword}
 use Rattle.sm_check_forms.specs.declared.layouts.LayoutPart.{LayoutPart}
 use Rattle.sm_check_forms.specs.declared.layouts.LayoutPart.TheVariants.{Many}
 use Rattle.sm_check_forms.specs.declared.layouts.Opening.{Opening}
-use Rattle.sm_check_forms.specs.Layouts.{begins, behind, left_behind, is_empty, is_whole}
-use Rattle.sm_check_forms.specs.Forms.{opening_of, fits, is_placed}
+use Rattle.sm_check_forms.proofs.KeywordLayouts.{begins, behind, left_behind, is_whole, opening_of, is_placed, placed_same}
+use Rattle.sm_check_forms.specs.Layouts.{is_empty}
+use Rattle.sm_check_forms.specs.Forms.{fits}
 use Rattle.sm_check_clauses.specs.declared.verdicts.Reason.{Reason}
 use Rattle.sm_check_clauses.specs.Judging.{Clauses, Holds}
 use Rattle.sm_check_clauses.proofs.LinewiseLemmas.{AllHold}
@@ -124,6 +125,6 @@ pub yes_of : (input : Input) (lines : List LineData) → All (IsLineOf input) li
     → ((k : ℕ) (why : Reason) → Holds input lines k why) → GetYes input lines
 yes_of input lines right fitting placed holds first_line = record {
   lines = lines;
-  answer = record { read = refl; right = right; fitting = fitting; placed = placed };
+  answer = record { read = refl; right = right; fitting = fitting; placed = sym (placed_same input lines) ∙ placed };
   judged = holds;
 }

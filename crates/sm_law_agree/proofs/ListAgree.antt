@@ -20,8 +20,8 @@ use Rattle.sm_answer_list.specs.ListAnswer.{last_line, vector_lines, IsCursor}
 use Rattle.sm_answer_list.proofs.ListLemmas.{list_sound}
 use Rattle.sm_report.specs.declared.keywords.Keyword.TheVariants as keyword
 use Rattle.sm_check_forms.specs.declared.layouts.LayoutPart.TheVariants.{One}
-use Rattle.sm_check_forms.specs.Layouts.{is_whole}
-use Rattle.sm_check_forms.specs.Forms.{opening_of, fits, is_placed, list_layout}
+use Rattle.sm_check_forms.proofs.KeywordLayouts.{is_whole, opening_of, is_placed, list_layout}
+use Rattle.sm_check_forms.specs.Forms.{fits}
 use Rattle.sm_check_clauses.specs.declared.verdicts.Reason.{Reason}
 use Rattle.sm_check_clauses.specs.declared.verdicts.Reason.TheVariants as reason
 use Rattle.sm_check_clauses.specs.Said.{vector_in, vectors_in}

@@ -22,8 +22,8 @@ use Rattle.sm_answer_roommates.specs.RoomAnswer.{party_line, party_lines, AreExc
 use Rattle.sm_answer_roommates.proofs.LineLemmas.{all_parties_sound}
 use Rattle.sm_report.specs.declared.keywords.Keyword.TheVariants as keyword
 use Rattle.sm_check_forms.specs.declared.layouts.LayoutPart.TheVariants.{One}
-use Rattle.sm_check_forms.specs.Layouts.{is_whole}
-use Rattle.sm_check_forms.specs.Forms.{opening_of, fits, is_placed, solve_layout, parties_layout, begins_with_lowest}
+use Rattle.sm_check_forms.proofs.KeywordLayouts.{is_whole, opening_of, is_placed, solve_layout, parties_layout}
+use Rattle.sm_check_forms.specs.Forms.{fits, begins_with_lowest}
 use Rattle.sm_check_clauses.specs.declared.verdicts.Reason.{Reason}
 use Rattle.sm_check_clauses.specs.declared.verdicts.Reason.TheVariants as reason
 use Rattle.sm_check_clauses.specs.Said.{party_in, parties_in}

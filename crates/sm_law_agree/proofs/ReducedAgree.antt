@@ -29,8 +29,8 @@ use Rattle.sm_check_forms.specs.Seats.{is_seat, seat_number, seat_numbers}
 use Rattle.sm_report.specs.declared.keywords.Keyword.{Keyword}
 use Rattle.sm_report.specs.declared.keywords.Keyword.TheVariants as keyword
 use Rattle.sm_check_forms.specs.declared.layouts.LayoutPart.TheVariants.{One, Many}
-use Rattle.sm_check_forms.specs.Layouts.{is_whole}
-use Rattle.sm_check_forms.specs.Forms.{fits, is_placed, closing}
+use Rattle.sm_check_forms.proofs.KeywordLayouts.{is_whole, is_placed, closing}
+use Rattle.sm_check_forms.specs.Forms.{fits}
 use Rattle.sm_check_clauses.specs.declared.verdicts.Reason.{Reason}
 use Rattle.sm_check_clauses.specs.declared.verdicts.Reason.TheVariants as reason
 use Rattle.sm_check_clauses.specs.Said.{first_in, firsts_in, last_in, lasts_in, proposer_list_in, proposer_lists_in, reviewer_list_in, reviewer_lists_in, is_end, is_up_to_firsts, is_up_to_lasts, IsFirstBehind}

@@ -21,8 +21,8 @@ use Rattle.sm_answer.proofs.LineLemmas.{end_sound, pair_sound}
 use Rattle.sm_answer_pairs.specs.RegretAnswer.{regret_lines}
 use Rattle.sm_report.specs.declared.keywords.Keyword.TheVariants as keyword
 use Rattle.sm_check_forms.specs.declared.layouts.LayoutPart.TheVariants.{One}
-use Rattle.sm_check_forms.specs.Layouts.{is_whole}
-use Rattle.sm_check_forms.specs.Forms.{fits, is_placed}
+use Rattle.sm_check_forms.proofs.KeywordLayouts.{is_whole, is_placed}
+use Rattle.sm_check_forms.specs.Forms.{fits}
 use Rattle.sm_holding.specs.Held.{places_in, CanFollow}
 use Rattle.sm_check_clauses.specs.declared.verdicts.Reason.{Reason}
 use Rattle.sm_check_clauses.specs.declared.verdicts.Reason.TheVariants as reason

@@ -32,8 +32,8 @@ use Rattle.sm_answer_rotations.specs.GivenLines.{two_lines}
 use Rattle.sm_answer_rotations.proofs.RotationLemmas.{seats_named, rotations_given_sound}
 use Rattle.sm_check_forms.specs.Seats.{is_seat, seat_number, all_numbered}
 use Rattle.sm_report.specs.declared.keywords.Keyword.TheVariants as keyword
-use Rattle.sm_check_forms.specs.Layouts.{is_whole}
-use Rattle.sm_check_forms.specs.Forms.{fits, is_placed, blocks_of, closing}
+use Rattle.sm_check_forms.proofs.KeywordLayouts.{is_whole, is_placed, blocks_of, closing}
+use Rattle.sm_check_forms.specs.Forms.{fits}
 use Rattle.sm_check_clauses.specs.declared.verdicts.Reason.{Reason}
 use Rattle.sm_check_clauses.specs.declared.verdicts.Reason.TheVariants as reason
 use Rattle.sm_check_clauses.specs.Said.{first_in, firsts_in, rotation_in, rotations_in, needs_in, is_up_to_firsts, is_up_to_rotations, IsFirstBehind}

@@ -1,5 +1,5 @@
 -- The answer of `weight` in two levels of specs/Witnesses.antt.
-use Rattle.std.proofs.Common.{◌≡◌, ℕ, zero, suc, ◌<◌, ◌≤◌, inl, inr, List, [], ◌∷◌, refl, ap, subst, arith, ne_eqb}
+use Rattle.std.proofs.Common.{◌≡◌, ℕ, zero, suc, ◌<◌, ◌≤◌, inl, inr, List, [], ◌∷◌, refl, sym, ap, subst, arith, ne_eqb}
 use Rattle.std.specs.Prelude.{pos, negsuc}
 use Rattle.std.specs.Int.RustNames.{unsigned_abs}
 use Rattle.std.proofs.lemmas.List.Elements.{All-cons}
@@ -25,7 +25,9 @@ use Rattle.sm_theory.proofs.Weighing.Second.{certificate_of_two}
 use Rattle.sm_seats.specs.Seating.{seating_of, written_of}
 use Rattle.sm_seats.specs.Correspondence.{IsSeating}
 use Rattle.sm_seats.proofs.CorrespondenceLaws.{is_seating, sound_entries}
+use Rattle.sm_seats.specs.ShownNet.{net_shown, second_net_shown}
 use Rattle.sm_seats.proofs.SecondLemmas.{lightest_by_both}
+use Rattle.sm_seats.proofs.ShownNetLemmas.{net_is_shown, second_net_is_shown}
 use Rattle.sm_answer_weight.specs.WeightAnswer.{FillsCut, IsCertificate, IsWeightAnswer}
 use Rattle.sm_answer_weight.specs.Witnesses.{parts_of_two, answer_of_two}
 use Rattle.sm_law_agree.specs.Witnesses.{weighed_by_two, WeighedByTwo}
@@ -143,12 +145,22 @@ lightest =
     worked_net.0 closed allowed fills.is_flow refl second_flow second_reach refl in
     lightest_by_both seating Given (matching_of three_cycle three_cycle_first three_cycle_chain set) both.0 both.1
 
+-- both nets as they are shown are the worked ones
+first_shown : net_shown Given weighed_by_two three_cycle_first three_cycle_chain three_cycle_needs ≡ first_level_net
+first_shown = net_is_shown seating three_cycle_is.1.chain Given three_cycle_needs
+
+second_shown : second_net_shown Given weighed_by_two three_cycle_first three_cycle_chain three_cycle_needs (amount_on three_cycle_lines) ≡ other
+second_shown = second_net_is_shown seating three_cycle_is.1.chain Given refl three_cycle_needs (amount_on three_cycle_lines)
+
 right : IsWeightAnswer Given weighed_by_two answer_of_two
 right = record {
   parts = parts_of_two;
   printed = three_cycle_is.1;
   needed = record { one_each = refl; each = worked_net.0.each };
-  certificates = (fills, certificate);
+  certificates = (
+    subst (λ (net : Net). FillsCut net three_cycle_lines set) (sym first_shown) fills,
+    subst (λ (net : Net). IsCertificate net second_lines set) (sym second_shown) certificate,
+  );
   lightest = lightest;
   shows = refl;
   sound = two_sound weighed_by_two.weights weighed_by_two.seconds;

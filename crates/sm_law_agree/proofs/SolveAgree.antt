@@ -13,8 +13,8 @@ use Rattle.sm_answer_solve.specs.Solution.{solve_lines}
 use Rattle.sm_answer_solve.proofs.SolutionLemmas.{solve_sound}
 use Rattle.sm_report.specs.declared.keywords.Keyword.TheVariants as keyword
 use Rattle.sm_check_forms.specs.declared.layouts.LayoutPart.TheVariants.{One}
-use Rattle.sm_check_forms.specs.Layouts.{is_whole}
-use Rattle.sm_check_forms.specs.Forms.{fits, is_placed}
+use Rattle.sm_check_forms.proofs.KeywordLayouts.{is_whole, is_placed}
+use Rattle.sm_check_forms.specs.Forms.{fits}
 use Rattle.sm_holding.specs.Held.{places_in, CanFollow}
 use Rattle.sm_check_clauses.specs.declared.verdicts.Reason.{Reason}
 use Rattle.sm_check_clauses.specs.declared.verdicts.Reason.TheVariants as reason

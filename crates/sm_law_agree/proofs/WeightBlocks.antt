@@ -5,7 +5,7 @@ use Rattle.std.proofs.lemmas.List.{length-take-le, take_more}
 use Rattle.sm_agents.specs.Written.{Written}
 use Rattle.sm_agents.specs.Sound.{IsInstance}
 use Rattle.sm_instance.specs.declared.inputs.Input.TheVariants.{Two}
-use Rattle.sm_instance.specs.Ranks.{pair_weight}
+use Rattle.sm_instance.specs.Ranks.{pair_weight, pair_second}
 use Rattle.sm_agents.specs.declared.kinds.Measure.{Measure}
 use Rattle.sm_agents.specs.declared.kinds.Side.TheVariants.{Proposers}
 use Rattle.sm_market.specs.Lists.{Lists, row, IsMarket}
@@ -13,16 +13,16 @@ use Rattle.sm_market.specs.Matching.{Places, IsMatching}
 use Rattle.sm_market.specs.Stable.{IsProposersBest}
 use Rattle.sm_theory.specs.Rotations.{IsNothingExposed, IsLowestExposed}
 use Rattle.sm_theory.specs.Chains.{rotation_at, stage, IsCompleteChain, IsPrintedChain, AreNeedsOf, AreNeeds}
-use Rattle.sm_theory.specs.Weights.{gain_of}
 use Rattle.sm_report.specs.declared.lines.Seat.{Seat}
 use Rattle.sm_report.specs.Heads.{HeadData}
 use Rattle.sm_report.specs.Lines.{LineData}
 use Rattle.sm_answer.specs.Lines.{lines_from}
 use Rattle.sm_seats.specs.SeatMarket.{seat_market, seats_of}
 use Rattle.sm_seats.specs.Seating.{Seating, seating_of}
-use Rattle.sm_seats.specs.Correspondence.{IsSeating, weights_by}
+use Rattle.sm_seats.specs.Correspondence.{IsSeating}
 use Rattle.sm_seats.proofs.CorrespondenceLaws.{is_seating, sound_entries}
-use Rattle.sm_seats.specs.Levels.{has_two_levels, pair_second_by}
+use Rattle.sm_seats.specs.Levels.{has_two_levels}
+use Rattle.sm_seats.specs.ShownNet.{gain_by}
 use Rattle.sm_answer_rotations.specs.Reduction.{seat_of, seat_line}
 use Rattle.sm_answer_rotations.specs.RotationLines.{numbers_of, seated_rotation, rotation_line, needs_line}
 use Rattle.sm_answer_rotations.proofs.RotationLemmas.{seats_named}
@@ -248,10 +248,10 @@ module _ {w : Written} (two : Bool) (by : Measure) {first : Places} {rotations :
 
     -- the gain that is shown is that of the last rotation, whatever is weighed
     gain_told : (weigh : ℕ → Option ℕ → ℤ) → Early w first (in_blocks rotations needs (k + 1) (k + 1)) above
-        → gain_of l (weights_by weigh s) (rotation_at rotations k) ≡ gain_of l (weights_by weigh s) (rotation_at (rotations_in w above) (last_rotation w above))
+        → gain_by weigh s (rotation_at rotations k) ≡ gain_by weigh s (rotation_at (rotations_in w above) (last_rotation w above))
     gain_told weigh said =
         let d = in_blocks rotations needs (k + 1) (k + 1) in
-        let gained : List (ℕ × ℕ) → ℤ = gain_of l (weights_by weigh s) in
+        let gained : List (ℕ × ℕ) → ℤ = gain_by weigh s in
         told w first (λ f d. gained (rotation_at rotations k) ≡ gained (rotation_at d.rotations (length d.rotations - 1))) d above said.0
         (ap gained (sym (ap (rotation_at (take (k + 1) rotations)) last_is ∙ same_rotation l first rotations (k + 1) k (omega arith))))
 
@@ -264,21 +264,21 @@ module _ {w : Written} (two : Bool) (by : Measure) {first : Places} {rotations :
         (flows_hold w by above x (second_level w by above) tt tt tt tt tt tt tt tt)
         tt (λ e. no_end e) (wanted_holds w by above x (tt, λ e. no_end e))
 
-    second_gain_holds : Early w first (in_blocks rotations needs (k + 1) (k + 1)) above → (why : Reason) → C w by above (second_shown_at by w rotations k) why
+    second_gain_holds : Early w first (in_blocks rotations needs (k + 1) (k + 1)) above → (why : Reason) → C w by above (second_shown_at w rotations k) why
     second_gain_holds said =
-        let x = second_shown_at by w rotations k in
+        let x = second_shown_at w rotations k in
         let d = in_blocks rotations needs (k + 1) (k + 1) in
         at_line d above said x (firsts_hold w above x tt (λ _. best d above said)) (chain_holds w by above x tt (λ b. no_end b.behind) tt)
         (flows_hold w by above x (first_level w by above) tt tt tt tt tt tt tt tt)
-        (flows_hold w by above x (second_level w by above) (gain_told (pair_second_by by w) said) tt tt tt tt tt tt tt)
+        (flows_hold w by above x (second_level w by above) (gain_told (pair_second w) said) tt tt tt tt tt tt tt)
         tt (λ e. no_end e) (wanted_holds w by above x (tt, λ e. no_end e))
 
     -- a line of a gain says nothing that is asked for later
     gain_said : Early w first (in_blocks rotations needs (k + 1) (k + 1)) above → Early w first (in_blocks rotations needs (k + 1) (k + 1)) (above ++ gain_shown_at by w rotations k ∷ [])
     gain_said said = early_more w first (in_blocks rotations needs (k + 1) (k + 1)) above (gain_shown_at by w rotations k) refl refl said
 
-    second_gain_said : Early w first (in_blocks rotations needs (k + 1) (k + 1)) above → Early w first (in_blocks rotations needs (k + 1) (k + 1)) (above ++ second_shown_at by w rotations k ∷ [])
-    second_gain_said said = early_more w first (in_blocks rotations needs (k + 1) (k + 1)) above (second_shown_at by w rotations k) refl refl said
+    second_gain_said : Early w first (in_blocks rotations needs (k + 1) (k + 1)) above → Early w first (in_blocks rotations needs (k + 1) (k + 1)) (above ++ second_shown_at w rotations k ∷ [])
+    second_gain_said said = early_more w first (in_blocks rotations needs (k + 1) (k + 1)) above (second_shown_at w rotations k) refl refl said
 
   block_step : (k : ℕ) (above : List LineData) → k < m → Early w first (in_blocks rotations needs k k) above → Held (C w by) (Early w first (in_blocks rotations needs (k + 1) (k + 1))) above (block_lines two by w rotations needs k)
   block_step k above less said =
@@ -289,7 +289,7 @@ module _ {w : Written} (two : Bool) (by : Measure) {first : Places} {rotations :
       let said_one = rotation_said k less above said in
       let said_other = needs_said k less one said_one in
       let said_gain = gain_said k less other said_other in
-      let second = second_shown_at by w rotations k in
+      let second = second_shown_at w rotations k in
       let rest = held_in_two (C w by) P two gained (second ∷ []) said_gain ((second_gain_holds k less gained said_gain, tt), second_gain_said k less gained said_gain) in
       held_more (C w by) P above (rotation_line s rotations k) (needs_line needs k ∷ gain_shown_at by w rotations k ∷ in_two two (second ∷ [])) (rotation_holds k less above said)
       (held_more (C w by) P one (needs_line needs k) (gain_shown_at by w rotations k ∷ in_two two (second ∷ [])) (needs_hold k less one said_one)
@@ -330,12 +330,12 @@ module _ {w : Written} (two : Bool) (by : Measure) {first : Places} {rotations :
 
   -- the blocks pass one that each of their lines passes
   pub lines_pass : (test : LineData → Bool) → ((k : ℕ) → test (rotation_line s rotations k) ≡ true) → ((k : ℕ) → test (needs_line needs k) ≡ true)
-      → ((k : ℕ) → test (gain_shown_at by w rotations k) ≡ true) → ((k : ℕ) → test (second_shown_at by w rotations k) ≡ true) → list_all test blocks ≡ true
+      → ((k : ℕ) → test (gain_shown_at by w rotations k) ≡ true) → ((k : ℕ) → test (second_shown_at w rotations k) ≡ true) → list_all test blocks ≡ true
   lines_pass test a b c d =
       blocks_pass test (block_lines two by w rotations needs)
-      (λ k. let rest = list_all test (in_two two (second_shown_at by w rotations k ∷ [])) in
+      (λ k. let rest = list_all test (in_two two (second_shown_at w rotations k ∷ [])) in
       ap (λ t. t && (test (needs_line needs k) && (test (gain_shown_at by w rotations k) && rest))) (a k) ∙ ap (λ t. t && (test (gain_shown_at by w rotations k) && rest)) (b k) ∙ ap (λ t. t && rest) (c k)
-      ∙ pass_in_two test two (second_shown_at by w rotations k ∷ []) (ap (λ t. t && true) (d k))) 0 m
+      ∙ pass_in_two test two (second_shown_at w rotations k ∷ []) (ap (λ t. t && true) (d k))) 0 m
 
   -- the first seats are of their form
   pub firsts_fit : list_all (fits (Two w)) firsts ≡ true

@@ -170,7 +170,7 @@ module _ {w : Written} {by : Measure} {parts : WeightParts} (right : IsRight w b
   through = none_through by w first rotations needs
 
   second_through : HasEdge other 0 (sink_of other) → ⊥
-  second_through = none_through_second net (amount_on flow) (second_gain_shown by w rotations) fills.is_flow through
+  second_through = none_through_second net (amount_on flow) (second_gain_shown w rotations) fills.is_flow through
 
   first_back : map (on_nodes m) (shown_flow parts flow) ≡ flow
   first_back = flow_back net flow parts.taken right.few fills through

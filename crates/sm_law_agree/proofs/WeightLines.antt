@@ -9,8 +9,6 @@ use Rattle.sm_instance.specs.Ranks.{weight_of, second_of}
 use Rattle.sm_agents.specs.declared.kinds.Measure.{Measure}
 use Rattle.sm_agents.specs.declared.kinds.Side.TheVariants.{Proposers}
 use Rattle.sm_market.specs.Matching.{Places}
-use Rattle.sm_theory.specs.Chains.{rotation_at}
-use Rattle.sm_theory.specs.Weights.{gain_of}
 use Rattle.sm_theory.specs.Net.{cut_of}
 use Rattle.sm_theory.specs.Flows.{flow_value}
 use Rattle.sm_theory.specs.FlowLines.{amount_on}
@@ -21,8 +19,8 @@ use Rattle.sm_answer.specs.Lines.{lines_from}
 use Rattle.sm_answer.proofs.AnswerLemmas.{lines_from-same}
 use Rattle.sm_seats.specs.SeatMarket.{seat_market}
 use Rattle.sm_seats.specs.Seating.{Seating, seating_of}
-use Rattle.sm_seats.specs.Correspondence.{weights_of}
-use Rattle.sm_seats.specs.Levels.{has_two_levels, seconds_by}
+use Rattle.sm_seats.specs.Levels.{has_two_levels}
+use Rattle.sm_seats.specs.ShownNet.{gain_shown, second_gain_shown}
 use Rattle.sm_answer.specs.MatchingLines.{pair_line}
 use Rattle.sm_answer_rotations.specs.Reduction.{seat_line}
 use Rattle.sm_answer_rotations.specs.RotationLines.{first_seat, first_seat_line, rotation_line, needs_line}
@@ -32,8 +30,8 @@ use Rattle.sm_answer_weight.proofs.RightLemmas.{gained_shown}
 use Rattle.sm_report.specs.declared.keywords.Keyword.TheVariants as keyword
 use Rattle.sm_check_forms.specs.declared.layouts.LayoutPart.{LayoutPart}
 use Rattle.sm_check_forms.specs.declared.layouts.LayoutPart.TheVariants.{Blocks}
-use Rattle.sm_check_forms.specs.Layouts.{later, behind, is_whole}
-use Rattle.sm_check_forms.specs.Forms.{opening_of}
+use Rattle.sm_check_forms.proofs.KeywordLayouts.{behind, is_whole, opening_of}
+use Rattle.sm_check_forms.specs.Layouts.{later}
 use Rattle.sm_check_clauses.specs.Said.{first_in, rotation_in, rotations_in, needs_in, all_needs_in, flow_in, flows_in, second_flow_in, taken_in, value_in, second_value_in, pair_in, pairs_in}
 use Rattle.sm_check_clauses.specs.SeatMatchings.{seat_places_in, first_of}
 use Rattle.sm_check_clauses.proofs.AnswerLemmas.{said_same, said_one as said_with}
@@ -174,11 +172,11 @@ in_figures parts values second_values = record {
 
 -- the line of a gain
 abbrev pub gain_shown_at : Measure → Written → List (List (ℕ × ℕ)) → ℕ → LineData
-gain_shown_at by w rotations k = LineData.Gain (k + 1) (gain_of (seat_market w) (weights_of by w (seating_of w)) (rotation_at rotations k))
+gain_shown_at by w rotations k = LineData.Gain (k + 1) (gain_shown by w rotations k)
 
 -- that of a second gain
-abbrev pub second_shown_at : Measure → Written → List (List (ℕ × ℕ)) → ℕ → LineData
-second_shown_at by w rotations k = LineData.SecondGain (k + 1) (gain_of (seat_market w) (seconds_by by w (seating_of w)) (rotation_at rotations k))
+abbrev pub second_shown_at : Written → List (List (ℕ × ℕ)) → ℕ → LineData
+second_shown_at w rotations k = LineData.SecondGain (k + 1) (second_gain_shown w rotations k)
 
 -- the lines of a rotation, of what it needs and of its gains
 abbrev pub block_lines : (two : Bool) → Measure → Written → List (List (ℕ × ℕ)) → List (List ℕ) → ℕ → List LineData
@@ -186,7 +184,7 @@ block_lines two by w rotations needs k =
     rotation_line (seating_of w) rotations k
     ∷ needs_line needs k
     ∷ gain_shown_at by w rotations k
-    ∷ in_two two (second_shown_at by w rotations k ∷ [])
+    ∷ in_two two (second_shown_at w rotations k ∷ [])
 
 -- how many lines a block has
 abbrev pub block_size : Bool → ℕ
@@ -224,7 +222,7 @@ module _ (by : Measure) (w : Written) (rotations : List (List (ℕ × ℕ))) (ne
       let behind_it = map opening_of (flat_map (block_lines true by w rotations needs) (range_with_len (k + 1) n) ++ rest) in
       let needed = opening_of (needs_line needs k) in
       let gained = opening_of (gain_shown_at by w rotations k) in
-      let second = opening_of (second_shown_at by w rotations k) in
+      let second = opening_of (second_shown_at w rotations k) in
       let same : (k + 1 == k + 1) ≡ true = eq-eqb (k + 1) (k + 1) refl in
       if_whole (k + 1 == k + 1) (turn_at 4 1 (k + 1) ∷ part ∷ parts) (needed ∷ gained ∷ second ∷ behind_it) same
       (if_whole (k + 1 == k + 1) (turn_at 4 2 (k + 1) ∷ part ∷ parts) (gained ∷ second ∷ behind_it) same

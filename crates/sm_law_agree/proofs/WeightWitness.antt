@@ -1,5 +1,5 @@
 -- The answer of `weight` of specs/Witnesses.antt.
-use Rattle.std.proofs.Common.{◌≡◌, ◌≢◌, ℕ, zero, suc, ◌<◌, ◌≤◌, ◌↔◌, true, Bool, List, [], ◌∷◌, length, refl, ap, arith}
+use Rattle.std.proofs.Common.{◌≡◌, ◌≢◌, ℕ, zero, suc, ◌<◌, ◌≤◌, ◌↔◌, true, Bool, List, [], ◌∷◌, length, refl, sym, ap, subst, arith}
 use Rattle.std.specs.Prelude.{ℤ, pos, negsuc}
 use Rattle.std.specs.List.{All}
 use Rattle.std.specs.Int.RustNames.{unsigned_abs}
@@ -20,7 +20,7 @@ use Rattle.sm_report.specs.Sound.{IsLineOf, IsSeatNumber, ArePair}
 use Rattle.sm_report.specs.declared.lines.Seat.{Seat}
 use Rattle.sm_theory.specs.ClosedSets.{IsMember, IsClosed, matching_of}
 use Rattle.sm_theory.specs.Vectors.{IsAllowed}
-use Rattle.sm_theory.specs.Net.{NoneLeaves}
+use Rattle.sm_theory.specs.Net.{Net, NoneLeaves}
 use Rattle.sm_theory.specs.Flows.{IsResidualStep, IsResidualReach}
 use Rattle.sm_theory.specs.FlowLines.{amount_on}
 use Rattle.sm_theory.specs.Conditions.{IsLightestAllowed}
@@ -39,9 +39,11 @@ use Rattle.sm_seats.specs.Seating.{seating_of, written_of}
 use Rattle.sm_seats.specs.Correspondence.{IsSeating}
 use Rattle.sm_seats.proofs.CorrespondenceLaws.{is_seating, sound_entries}
 use Rattle.sm_seats.specs.Levels.{pair_second_by, seconds_by}
+use Rattle.sm_seats.specs.ShownNet.{net_shown}
 use Rattle.sm_seats.proofs.LevelLemmas.{none_second}
+use Rattle.sm_seats.proofs.ShownNetLemmas.{net_is_shown}
 use Rattle.sm_seats.proofs.SecondLemmas.{weight_none, lightest_by_both}
-use Rattle.sm_answer_weight.specs.WeightAnswer.{member_numbers, IsWeightAnswer}
+use Rattle.sm_answer_weight.specs.WeightAnswer.{member_numbers, IsCertificate, IsWeightAnswer}
 use Rattle.sm_instance.specs.Lightest.{IsLightestByBoth}
 use Rattle.sm_answer_weight.proofs.MemberLemmas.{are_rotations}
 use Rattle.sm_law_agree.specs.Witnesses.{weighed_three, WeighedThree}
@@ -209,12 +211,19 @@ module _ (weights : List (ℕ × ℕ × ℤ)) (seconds : List ℤ) where
   pub two_sound : All P answer_of_two
   two_sound = All-from_recursion P answer_of_two (head_line, (first_line 0 0 (omega arith) (omega arith), (first_line 1 1 (omega arith) (omega arith), (first_line 2 2 (omega arith) (omega arith), (rotation_line 1 0 1 2 (omega arith) (omega arith) (omega arith) (omega arith) (omega arith), (needs_line 1 [] 0 (omega arith) (omega arith) (omega arith), (gain_line 1 (pos 4) (omega arith) (omega arith) (omega arith), (second_gain_line 1 (pos 1) (omega arith) (omega arith) (omega arith), (rotation_line 2 1 2 0 (omega arith) (omega arith) (omega arith) (omega arith) (omega arith), (needs_line 2 (true ∷ []) 1 (omega arith) (omega arith) (omega arith), (gain_line 2 (negsuc 3) (omega arith) (omega arith) (omega arith), (second_gain_line 2 (negsuc 2) (omega arith) (omega arith) (omega arith), (flow_line 0 2 (omega arith) (omega arith), (flow_line 1 4294967295 (omega arith) (omega arith), (flow_line 2 1 (omega arith) (omega arith), (second_flow_line 0 2 (omega arith) (omega arith), (second_flow_line 1 4294967295 (omega arith) (omega arith), (second_flow_line 2 1 (omega arith) (omega arith), (taken_line, (value_line, (cut_line, (total_line (pos 0) (omega arith), (second_value_line, (second_cut_line, (second_total_line, (pair_line 0 2 (omega arith) (omega arith), (pair_line 1 0 (omega arith) (omega arith), (pair_line 2 1 (omega arith) (omega arith), (end_line, tt)))))))))))))))))))))))))))))
 
+-- the net as it is shown is the worked one
+shown : net_shown Given weighed_three three_cycle_first three_cycle_chain three_cycle_needs ≡ three_cycle_net
+shown = net_is_shown seating three_cycle_is.1.chain Given three_cycle_needs
+
+certificate : IsCertificate three_cycle_net three_cycle_lines set
+certificate = record { fills = record { lines = worked_lines.0; is_flow = worked_lines.1; full = refl }; reach = reach }
+
 right : IsWeightAnswer Given weighed_three worked_answer
 right = record {
   parts = three_parts;
   printed = three_cycle_is.1;
   needed = record { one_each = refl; each = worked_net.0.each };
-  certificates = (record { fills = record { lines = worked_lines.0; is_flow = worked_lines.1; full = refl }; reach = reach }, refl);
+  certificates = (subst (λ (net : Net). IsCertificate net three_cycle_lines set) (sym shown) certificate, refl);
   lightest = lightest;
   shows = refl;
   sound = three_sound weighed_three.weights weighed_three.seconds;

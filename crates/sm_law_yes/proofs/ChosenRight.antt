@@ -2,7 +2,7 @@
 use Rattle.std.proofs.Common.{◌≡◌, ℕ, zero, suc, ◌+◌, ◌<◌, ◌≤◌, inl, inr, arith, refl, sym, ap, ap₂, ◌∙◌, cond, true, false, List, [], ◌∷◌, ◌++◌, length, map, take, Option, Some, None, IsSome, subst, ext_get_or}
 use Rattle.std.specs.Prelude.{Contains}
 use Rattle.std.specs.Option.{option_map}
-use Rattle.std.proofs.lemmas.Bool.{false≢true, cases_eq}
+use Rattle.std.proofs.lemmas.Bool.{false≢true, cases_eq, cases_Bool}
 use Rattle.std.proofs.lemmas.List.{get_or-take, length-take-le, get_or_default}
 use Rattle.std.proofs.lemmas.List.Elements.{All-from_get_or}
 use Rattle.std.proofs.lemmas.List.FromFn.{length-map-range_with_len}
@@ -14,7 +14,7 @@ use Rattle.sm_instance.specs.Matching.{held, leads_to, is_at, load_before, IsAss
 use Rattle.sm_instance.specs.Stable.{IsStable}
 use Rattle.sm_agents.specs.Sound.{IsInstance}
 use Rattle.sm_instance.specs.declared.inputs.Input.TheVariants.{Two}
-use Rattle.sm_instance.proofs.LoadLemmas.{load_before-suc, at_place, place_at, test_cases}
+use Rattle.sm_instance.proofs.LoadLemmas.{load_before-suc, at_place, place_at}
 use Rattle.sm_market.specs.Lists.{entry as entry_in_rows}
 use Rattle.sm_theory.specs.declared.choice.Choice.{Choice}
 use Rattle.sm_theory.specs.declared.choice.Choice.TheVariants.{Better, Worse}
@@ -32,8 +32,8 @@ use Rattle.sm_answer_given.specs.Chosen.{IsChosenAnswer, chosen_lines, pair_line
 use Rattle.sm_answer_given.specs.GivenText.{left_pair, right_pair, ArePairs}
 use Rattle.sm_check_forms.specs.Keywords.{is_same}
 use Rattle.sm_check_forms.specs.declared.layouts.LayoutPart.TheVariants.{Many}
-use Rattle.sm_check_forms.specs.Layouts.{begins, is_whole}
-use Rattle.sm_check_forms.specs.Forms.{closing, given_layout, opening_of, fits}
+use Rattle.sm_check_forms.proofs.KeywordLayouts.{begins, is_whole, closing, given_layout, opening_of}
+use Rattle.sm_check_forms.specs.Forms.{fits}
 use Rattle.sm_check_clauses.specs.Said.{pair_in, pairs_in, left_in, lefts_in, right_in, rights_in}
 use Rattle.sm_cert.specs.Yes.{ArePairsOf, IsChosen, MeetYes, JoinYes}
 use Rattle.sm_cert.proofs.YesLines.{by_head}
@@ -118,7 +118,7 @@ module _ {w : Written} {places : List (Option ℕ)} {pairs : List (ℕ × ℕ)} 
             d.holds ∙ is
 
     at_most : (q s : ℕ) → cond (is_at w (places_in w front) q s) 1 0 ≤ cond (is_at w places q s) 1 0
-    at_most q s = elim (test_cases (is_at w (places_in w front) q s)) [
+    at_most q s = elim (cases_Bool (is_at w (places_in w front) q s)) [
       | inl here ↦
           let t = place_at w q s (held (places_in w front) q) here in
           let there = at_place w places q s t.0 (held_in_front q (Some t.0) t.1 refl) t.2 in

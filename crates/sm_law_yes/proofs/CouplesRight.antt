@@ -11,8 +11,7 @@ use Rattle.sm_report.specs.Lines.{LineData}
 use Rattle.sm_answer.specs.Lines.{lines_from}
 use Rattle.sm_answer.proofs.AnswerLemmas.{lines_from-same}
 use Rattle.sm_answer_roommates.specs.RoomAnswer.{couple_with, couple_line, couple_lines, IsMatched}
-use Rattle.sm_check_forms.specs.Layouts.{is_whole}
-use Rattle.sm_check_forms.specs.Forms.{solve_layout, parties_layout, opening_of}
+use Rattle.sm_check_forms.proofs.KeywordLayouts.{is_whole, solve_layout, parties_layout, opening_of}
 use Rattle.sm_check_clauses.specs.Said.{pairs_in}
 use Rattle.sm_cert.specs.Yes.{IsCoupled, CouplesYes}
 use Rattle.sm_cert.proofs.YesLines.{by_head}

@@ -14,8 +14,8 @@ use Rattle.sm_report.specs.Texts.{text_of_line}
 use Rattle.sm_report.specs.declared.keywords.Keyword.{Keyword}
 use Rattle.sm_report.specs.Keywords.{keyword_of}
 use Rattle.sm_check_forms.specs.declared.layouts.Opening.{Opening}
-use Rattle.sm_check_forms.specs.Layouts.{is_whole}
-use Rattle.sm_check_forms.specs.Forms.{AreAnswer, fits, layouts_of, number_in, opening_of, is_placed}
+use Rattle.sm_check_forms.proofs.KeywordLayouts.{is_whole, layouts_of, opening_of, is_placed, placed_same}
+use Rattle.sm_check_forms.specs.Forms.{AreAnswer, fits, number_in}
 use Rattle.sm_check_clauses.specs.declared.verdicts.Reason.{Reason}
 use Rattle.sm_check_clauses.specs.Verdicts.{AtLine}
 use Rattle.sm_check_clauses.specs.Judging.{Subject, answer, couples, parties, Clauses, Holds}
@@ -94,7 +94,7 @@ formed input head openings lines e own is placed = record {
   read = refl;
   right = own_right input lines own;
   fitting = own_fitting input lines own;
-  placed = go lines e is;
+  placed = sym (placed_same input lines) ∙ go lines e is;
 }
   where
     go : (ls : List LineData) → slice_get ls 0 ≡ Some (LineData.Answer head) → map opening_of ls ≡ opening_of (LineData.Answer head) ∷ openings → is_placed is_whole input ls ≡ true

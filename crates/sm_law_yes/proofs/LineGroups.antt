@@ -4,6 +4,7 @@ use Rattle.std.specs.Prelude.{filter_map, Contains}
 use Rattle.std.specs.List.{All, cons_option, list_all, list_any}
 use Rattle.std.proofs.lemmas.Bool.{false≢true}
 use Rattle.std.proofs.lemmas.List.Elements.{All-head, All-tail, filter_map-append}
+use Rattle.sm_lists.proofs.BoolLemmas.{first_true, second_true}
 use Rattle.sm_agents.specs.Written.{Written}
 use Rattle.sm_instance.specs.declared.inputs.Input.{Input}
 use Rattle.sm_instance.specs.declared.inputs.Input.TheVariants.{Two}
@@ -13,10 +14,9 @@ use Rattle.sm_report.specs.Sound.{IsLineOf}
 use Rattle.sm_report.specs.declared.keywords.Keyword.{Keyword}
 use Rattle.sm_check_forms.specs.declared.layouts.LayoutPart.{LayoutPart}
 use Rattle.sm_check_forms.specs.declared.layouts.LayoutPart.TheVariants.{Many}
-use Rattle.sm_check_forms.specs.Layouts.{begins, behind, left_behind, is_empty, is_whole}
-use Rattle.sm_check_forms.specs.Forms.{closing, opening_of, fits}
-use Rattle.sm_check_forms.proofs.LayoutLemmas.{left_behind-none}
-use Rattle.sm_check_forms.proofs.TakingLemmas.{and_left, and_right}
+use Rattle.sm_check_forms.proofs.KeywordLayouts.{begins, behind, left_behind, is_whole, closing, opening_of, left_behind-none}
+use Rattle.sm_check_forms.specs.Layouts.{is_empty}
+use Rattle.sm_check_forms.specs.Forms.{fits}
 use Rattle.sm_cert.specs.Yes.{GetsYes}
 use Rattle.sm_law_yes.proofs.ReorderLemmas.{first_or_rest}
 
@@ -67,8 +67,8 @@ own_lines : (input : Input) (lines : List LineData) → All (IsLineOf input) lin
 own_lines input [] right fitting = tt
 own_lines input (x ∷ xs) right fitting = (
   All-head (IsLineOf input) x xs right,
-  and_left (fits input x) (list_all (fits input) xs) fitting,
-  own_lines input xs (All-tail (IsLineOf input) x xs right) (and_right (fits input x) (list_all (fits input) xs) fitting),
+  first_true (fits input x) (list_all (fits input) xs) fitting,
+  own_lines input xs (All-tail (IsLineOf input) x xs right) (second_true (fits input x) (list_all (fits input) xs) fitting),
 )
 
 -- those of an answer that gets a yes

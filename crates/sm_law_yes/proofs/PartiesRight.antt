@@ -13,6 +13,7 @@ use Rattle.std.proofs.lemmas.Option.{same_Some}
 use Rattle.sm_agents.specs.Written.{AgentData, lists_of}
 use Rattle.sm_instance.specs.declared.inputs.Input.TheVariants.{Room}
 use Rattle.sm_lists.specs.Rows.{row}
+use Rattle.sm_lists.proofs.BoolLemmas.{first_true, second_true}
 use Rattle.sm_theory.specs.Partitions.{successor_in, after, IsInOddParty}
 use Rattle.sm_report.specs.Heads.{HeadData}
 use Rattle.sm_report.specs.Lines.{LineData}
@@ -22,10 +23,9 @@ use Rattle.sm_answer.specs.Lines.{line_or_none, lines_from}
 use Rattle.sm_answer.proofs.AnswerLemmas.{lines_from-same}
 use Rattle.sm_answer_roommates.specs.Parties.{IsParty, IsInSomeParty, AreParties}
 use Rattle.sm_answer_roommates.specs.RoomAnswer.{party_line, party_lines, IsUnmatchable}
-use Rattle.sm_check_forms.specs.Layouts.{is_whole}
-use Rattle.sm_check_forms.specs.Forms.{closing, solve_layout, parties_layout, opening_of, fits, begins_with_lowest}
+use Rattle.sm_check_forms.proofs.KeywordLayouts.{is_whole, closing, solve_layout, parties_layout, opening_of}
+use Rattle.sm_check_forms.specs.Forms.{fits, begins_with_lowest}
 use Rattle.sm_check_forms.specs.declared.layouts.LayoutPart.TheVariants.{Many}
-use Rattle.sm_check_forms.proofs.TakingLemmas.{and_left, and_right}
 use Rattle.sm_check_clauses.specs.Said.{party_in, parties_in}
 use Rattle.sm_check_clauses.specs.Rooming.{members_of}
 use Rattle.sm_check_roommates.proofs.PartyLemmas.{once_least, twice_least}
@@ -205,11 +205,11 @@ own_parties persons [] right fit party c = absurd (let l = c.1 in omega (arith, 
 own_parties persons (LineData.Party p ∷ xs) right fit party c =
     let own = All-head (IsLineOf (Room persons)) (LineData.Party p) xs right in
     elim (first_or_rest p (parties_in xs) party c) [
-      | inl same ↦ subst (IsOwnParty persons) same (record { lowest = and_left (begins_with_lowest p) (list_all (fits (Room persons)) xs) fit; there = own.printable })
-      | inr rest ↦ own_parties persons xs (All-tail (IsLineOf (Room persons)) (LineData.Party p) xs right) (and_right (begins_with_lowest p) (list_all (fits (Room persons)) xs) fit) party rest
+      | inl same ↦ subst (IsOwnParty persons) same (record { lowest = first_true (begins_with_lowest p) (list_all (fits (Room persons)) xs) fit; there = own.printable })
+      | inr rest ↦ own_parties persons xs (All-tail (IsLineOf (Room persons)) (LineData.Party p) xs right) (second_true (begins_with_lowest p) (list_all (fits (Room persons)) xs) fit) party rest
     ]
 own_parties persons (x ∷ xs) right fit party c =
-    own_parties persons xs (All-tail (IsLineOf (Room persons)) x xs right) (and_right (fits (Room persons) x) (list_all (fits (Room persons)) xs) fit) party c
+    own_parties persons xs (All-tail (IsLineOf (Room persons)) x xs right) (second_true (fits (Room persons) x) (list_all (fits (Room persons)) xs) fit) party c
 
 some_member : (party : List ℕ) → begins_with_lowest party ≡ true → 0 < length party
 some_member [] e = absurd (false≢true e)

@@ -5,6 +5,7 @@ use Rattle.std.proofs.lemmas.Bool.{false≢true, cases_eq}
 use Rattle.std.proofs.lemmas.List.FromFn.{length-map-range_with_len}
 use Rattle.std.proofs.lemmas.List.Sums.{sum_by-cons}
 use Rattle.std.proofs.lemmas.Option.{same_Some}
+use Rattle.sm_lists.proofs.BoolLemmas.{first_true}
 use Rattle.sm_agents.specs.Written.{Written}
 use Rattle.sm_agents.specs.Sound.{IsInstance}
 use Rattle.sm_instance.specs.declared.inputs.Input.TheVariants.{Two}
@@ -27,9 +28,8 @@ use Rattle.sm_answer_rotations.specs.Reduction.{seat_of, seat_line, proposer_lin
 use Rattle.sm_check_forms.specs.Keywords.{is_same}
 use Rattle.sm_check_forms.specs.Seats.{is_seat, seat_number, seat_numbers}
 use Rattle.sm_check_forms.specs.declared.layouts.LayoutPart.TheVariants.{Many}
-use Rattle.sm_check_forms.specs.Layouts.{begins, is_whole}
-use Rattle.sm_check_forms.specs.Forms.{closing, reduced_layout, opening_of, fits}
-use Rattle.sm_check_forms.proofs.TakingLemmas.{and_left}
+use Rattle.sm_check_forms.proofs.KeywordLayouts.{begins, is_whole, closing, reduced_layout, opening_of}
+use Rattle.sm_check_forms.specs.Forms.{fits}
 use Rattle.sm_check_clauses.specs.Said.{first_in, firsts_in, last_in, lasts_in, proposer_list_in, proposer_lists_in, reviewer_list_in, reviewer_lists_in}
 use Rattle.sm_check_clauses.specs.Chain.{owners}
 use Rattle.sm_cert.specs.Yes.{AreAllLists, IsReduced, ReducedYes}
@@ -132,7 +132,7 @@ module _ (w : Written) where
 
   read_reviewer : (y : LineData) → fits (Two w) y ≡ true → begins (opening_of y) keyword.Reviewer ≡ true → IsLineFor reviewer_data (reviewer_list_in w) y
   read_reviewer (LineData.ReviewerList seat proposers) f e =
-      record { thing = (seat_number w seat, proposers); says = refl; is = ap (λ (x : Seat). LineData.ReviewerList x proposers) (seat_back w seat (and_left (is_seat w seat) true f)) }
+      record { thing = (seat_number w seat, proposers); says = refl; is = ap (λ (x : Seat). LineData.ReviewerList x proposers) (seat_back w seat (first_true (is_seat w seat) true f)) }
   read_reviewer _ f e = absurd (false≢true e)
 
   -- whose lists are written is there
@@ -148,7 +148,7 @@ module _ (w : Written) where
 
   reviewer_there : (y : LineData) → IsLineOf (Two w) y → fits (Two w) y ≡ true → (x : ℕ × List ℕ) → reviewer_list_in w y ≡ Some x → IsBelow (length (seat_market w).reviewers) x
   reviewer_there (LineData.ReviewerList seat proposers) own f x e =
-      let less = seat_there (seat_at w seat (and_left (is_seat w seat) true f)) in
+      let less = seat_there (seat_at w seat (first_true (is_seat w seat) true f)) in
       subst (IsBelow (length (seat_market w).reviewers)) (same_Some _ _ e) (let long = length-reviewers w in omega (arith, less, long))
   reviewer_there _ own f x e = absurd (no_list e)
     where

@@ -5,6 +5,7 @@ use Rattle.std.specs.List.{All, cons_option, flat_map, range_with_len, list_all,
 use Rattle.std.specs.Option.{option_map}
 use Rattle.std.proofs.lemmas.Bool.{false≢true, eqb-true}
 use Rattle.std.proofs.lemmas.List.{get_or-map, length-map}
+use Rattle.sm_lists.proofs.BoolLemmas.{first_true, second_true}
 use Rattle.sm_agents.specs.Written.{Written}
 use Rattle.sm_agents.specs.Sound.{IsInstance}
 use Rattle.sm_instance.specs.declared.inputs.Input.TheVariants.{Two}
@@ -32,9 +33,8 @@ use Rattle.sm_check_forms.specs.Keywords.{is_same}
 use Rattle.sm_check_forms.specs.Seats.{is_seat, seat_number, all_numbered}
 use Rattle.sm_check_forms.specs.declared.layouts.LayoutPart.{LayoutPart}
 use Rattle.sm_check_forms.specs.declared.layouts.LayoutPart.TheVariants.{Blocks}
-use Rattle.sm_check_forms.specs.Layouts.{begins, left_behind, is_empty, is_whole}
-use Rattle.sm_check_forms.specs.Forms.{closing, blocks_of, rotations_layout, opening_of}
-use Rattle.sm_check_forms.proofs.TakingLemmas.{and_left, and_right}
+use Rattle.sm_check_forms.proofs.KeywordLayouts.{begins, left_behind, is_whole, closing, blocks_of, rotations_layout, opening_of}
+use Rattle.sm_check_forms.specs.Layouts.{is_empty}
 use Rattle.sm_check_clauses.specs.Said.{first_in, firsts_in, rotation_in, rotations_in, needs_in, all_needs_in}
 use Rattle.sm_holding.specs.Held.{partner_in}
 use Rattle.sm_cert.specs.Yes.{IsChainWritten, RotationsYes}
@@ -124,8 +124,8 @@ module _ (w : Written) where
   pairs_back : (pairs : List (ℕ × Seat)) → list_all (is_seat w) (map (λ pair. pair.1) pairs) ≡ true → seated_rotation (seating_of w) (all_numbered w pairs) ≡ pairs
   pairs_back [] e = refl
   pairs_back (pair ∷ pairs) e =
-      ap (λ (seat : Seat). (pair.0, seat) ∷ seated_rotation (seating_of w) (all_numbered w pairs)) (seat_back w pair.1 (and_left (is_seat w pair.1) (list_all (is_seat w) (map (λ pair. pair.1) pairs)) e))
-      ∙ ap (λ (xs : List (ℕ × Seat)). pair ∷ xs) (pairs_back pairs (and_right (is_seat w pair.1) (list_all (is_seat w) (map (λ pair. pair.1) pairs)) e))
+      ap (λ (seat : Seat). (pair.0, seat) ∷ seated_rotation (seating_of w) (all_numbered w pairs)) (seat_back w pair.1 (first_true (is_seat w pair.1) (list_all (is_seat w) (map (λ pair. pair.1) pairs)) e))
+      ∙ ap (λ (xs : List (ℕ × Seat)). pair ∷ xs) (pairs_back pairs (second_true (is_seat w pair.1) (list_all (is_seat w) (map (λ pair. pair.1) pairs)) e))
 
   -- numbers from 1, from 0 and back
   numbers_back : (needed : List ℕ) → All IsRotation needed → numbers_of (map pred needed) ≡ needed
@@ -307,7 +307,7 @@ first_said_is w (LineData.First q seat ∷ lines) own p = go (q == p) (first_sai
   where
     go : (t : Bool) → first_seat_in lines p ≡ option_map (seat_of (seating_of w)) (partner_in (firsts_in w lines) p)
         → cond t (Some seat) (first_seat_in lines p) ≡ option_map (seat_of (seating_of w)) (cond t (Some (seat_number w seat)) (partner_in (firsts_in w lines) p))
-    go true e = ap Some (sym (seat_back w seat (and_left (is_seat w seat) true own.1)))
+    go true e = ap Some (sym (seat_back w seat (first_true (is_seat w seat) true own.1)))
     go false e = e
 first_said_is w (_ ∷ lines) own p = first_said_is w lines own.2 p
 

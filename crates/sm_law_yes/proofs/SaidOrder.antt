@@ -6,13 +6,13 @@ use Rattle.std.specs.Option.{is_some}
 use Rattle.std.proofs.lemmas.Bool.{false≢true}
 use Rattle.std.proofs.lemmas.List.Folds.{list_all-append}
 use Rattle.std.proofs.lemmas.List.Elements.{filter_map-append}
+use Rattle.sm_lists.proofs.BoolLemmas.{first_true, second_true}
 use Rattle.sm_agents.specs.Written.{Written}
 use Rattle.sm_market.specs.Lists.{Lists}
 use Rattle.sm_report.specs.Lines.{LineData}
 use Rattle.sm_report.specs.declared.keywords.Keyword.{Keyword}
 use Rattle.sm_report.specs.Keywords.{keyword_of}
 use Rattle.sm_check_forms.specs.Keywords.{is_same}
-use Rattle.sm_check_forms.proofs.TakingLemmas.{and_left, and_right}
 use Rattle.sm_holding.specs.Held.{CanFollow}
 use Rattle.sm_check_clauses.specs.Pairs.{IsWanted}
 use Rattle.sm_check_clauses.specs.SeatMatchings.{IsFreeSeat}
@@ -153,5 +153,5 @@ module _ (up : LineData → Bool) where
     -- and the first isn't it behind the second
     pub behind_second : {P : Type 0} → IsFirstBehind up (above ++ y ∷ []) x → P
     behind_second h =
-        let there = and_right (list_all up above) (up y && true) (sym (passes above y) ∙ h.all_above) in
-        absurd (false≢true (ap not (sym (same ∙ and_left (up y) true there)) ∙ h.behind))
+        let there = second_true (list_all up above) (up y && true) (sym (passes above y) ∙ h.all_above) in
+        absurd (false≢true (ap not (sym (same ∙ first_true (up y) true there)) ∙ h.behind))

@@ -4,6 +4,7 @@ use Rattle.std.proofs.Common.{◌≡◌, ℕ, ◌+◌, ◌-◌, ◌≤◌, nat_l
 use Rattle.std.specs.List.{list_all}
 use Rattle.std.specs.Option.{option_map}
 use Rattle.std.proofs.lemmas.Bool.{false≢true, leb-true}
+use Rattle.sm_lists.proofs.BoolLemmas.{first_true, second_true}
 use Rattle.sm_agents.specs.Written.{Written}
 use Rattle.sm_instance.specs.declared.inputs.Input.TheVariants.{Two}
 use Rattle.sm_agents.specs.declared.kinds.Side.{Side}
@@ -21,9 +22,8 @@ use Rattle.sm_seats.specs.Seating.{seating_of}
 use Rattle.sm_seats.proofs.SeatLemmas.{IsSeatOf, seat_name}
 use Rattle.sm_answer_rotations.specs.Reduction.{seat_of, best_seat, seat_line}
 use Rattle.sm_check_forms.specs.Seats.{is_seat, seat_number, seat_numbers}
-use Rattle.sm_check_forms.specs.Layouts.{begins}
-use Rattle.sm_check_forms.specs.Forms.{opening_of, fits}
-use Rattle.sm_check_forms.proofs.TakingLemmas.{and_left, and_right}
+use Rattle.sm_check_forms.proofs.KeywordLayouts.{begins, opening_of}
+use Rattle.sm_check_forms.specs.Forms.{fits}
 use Rattle.sm_check_clauses.specs.Said.{first_in, last_in}
 use Rattle.sm_cert.specs.Yes.{ArePairsOf}
 use Rattle.sm_law_yes.specs.Reordered.{IsReordered}
@@ -37,16 +37,16 @@ module _ (w : Written) where
   seat_at seat e = record { is = refl; below = omega (arith, low seat e, high seat e) }
     where
       low : (seat : Seat) → is_seat w seat ≡ true → 1 ≤ seat.number
-      low seat e = leb-true 1 seat.number (and_left (nat_le 1 seat.number) (nat_le seat.number (seat_count w seat.reviewer)) e)
+      low seat e = leb-true 1 seat.number (first_true (nat_le 1 seat.number) (nat_le seat.number (seat_count w seat.reviewer)) e)
 
       high : (seat : Seat) → is_seat w seat ≡ true → seat.number ≤ seat_count w seat.reviewer
-      high seat e = leb-true seat.number (seat_count w seat.reviewer) (and_right (nat_le 1 seat.number) (nat_le seat.number (seat_count w seat.reviewer)) e)
+      high seat e = leb-true seat.number (seat_count w seat.reviewer) (second_true (nat_le 1 seat.number) (nat_le seat.number (seat_count w seat.reviewer)) e)
 
   -- and is the seat with it
   pub seat_back : (seat : Seat) → is_seat w seat ≡ true → seat_of (seating_of w) (seat_number w seat) ≡ seat
   seat_back seat e =
       let at = seat_at seat e in
-      let low = leb-true 1 seat.number (and_left (nat_le 1 seat.number) (nat_le seat.number (seat_count w seat.reviewer)) e) in
+      let low = leb-true 1 seat.number (first_true (nat_le 1 seat.number) (nat_le seat.number (seat_count w seat.reviewer)) e) in
       let name : get_or (seats_of w) (seat_number w seat) (0, 0) ≡ (seat.reviewer, seat.number) =
       seat_name at ∙ ap (λ n. (seat.reviewer, n)) (let same : seat.number - 1 + 1 ≡ seat.number = omega (arith, low) in same) in
       ap (λ (x : ℕ × ℕ). let seat : Seat = record { reviewer = x.0; number = x.1 } in seat) name
@@ -55,8 +55,8 @@ module _ (w : Written) where
   pub seats_back : (seats : List Seat) → list_all (is_seat w) seats ≡ true → map (seat_of (seating_of w)) (seat_numbers w seats) ≡ seats
   seats_back [] e = refl
   seats_back (seat ∷ seats) e =
-      ap (λ (x : Seat). x ∷ map (seat_of (seating_of w)) (seat_numbers w seats)) (seat_back seat (and_left (is_seat w seat) (list_all (is_seat w) seats) e))
-      ∙ ap (λ (xs : List Seat). seat ∷ xs) (seats_back seats (and_right (is_seat w seat) (list_all (is_seat w) seats) e))
+      ap (λ (x : Seat). x ∷ map (seat_of (seating_of w)) (seat_numbers w seats)) (seat_back seat (first_true (is_seat w seat) (list_all (is_seat w) seats) e))
+      ∙ ap (λ (xs : List Seat). seat ∷ xs) (seats_back seats (second_true (is_seat w seat) (list_all (is_seat w) seats) e))
 
   -- the line of a proposer with a seat, by the number of the seat
   abbrev pub seat_data : Side → ℕ × ℕ → LineData
@@ -65,13 +65,13 @@ module _ (w : Written) where
   -- a line with the keyword of first seats is such a line
   pub read_first : (y : LineData) → fits (Two w) y ≡ true → begins (opening_of y) keyword.First ≡ true → IsLineFor (seat_data Proposers) (first_in w) y
   read_first (LineData.First p seat) f e =
-      record { thing = (p, seat_number w seat); says = refl; is = ap (λ (x : Seat). LineData.First p x) (seat_back seat (and_left (is_seat w seat) true f)) }
+      record { thing = (p, seat_number w seat); says = refl; is = ap (λ (x : Seat). LineData.First p x) (seat_back seat (first_true (is_seat w seat) true f)) }
   read_first _ f e = absurd (false≢true e)
 
   -- and so is one with the keyword of last seats
   pub read_last : (y : LineData) → fits (Two w) y ≡ true → begins (opening_of y) keyword.Last ≡ true → IsLineFor (seat_data Reviewers) (last_in w) y
   read_last (LineData.Last p seat) f e =
-      record { thing = (p, seat_number w seat); says = refl; is = ap (λ (x : Seat). LineData.Last p x) (seat_back seat (and_left (is_seat w seat) true f)) }
+      record { thing = (p, seat_number w seat); says = refl; is = ap (λ (x : Seat). LineData.Last p x) (seat_back seat (first_true (is_seat w seat) true f)) }
   read_last _ f e = absurd (false≢true e)
 
 -- The pairs of a matching of the seats.

@@ -12,8 +12,7 @@ use Rattle.sm_report.specs.declared.keywords.Keyword.TheVariants as keyword
 use Rattle.sm_answer.specs.Lines.{lines_from}
 use Rattle.sm_answer.specs.MatchingLines.{pair_line}
 use Rattle.sm_answer_solve.specs.Solution.{IsSolution, solve_lines}
-use Rattle.sm_check_forms.specs.Layouts.{begins, is_whole}
-use Rattle.sm_check_forms.specs.Forms.{closing, solve_layout, opening_of}
+use Rattle.sm_check_forms.proofs.KeywordLayouts.{begins, is_whole, closing, solve_layout, opening_of}
 use Rattle.sm_check_clauses.specs.Said.{pair_in, pairs_in}
 use Rattle.sm_cert.specs.Yes.{IsSideBest, SolveYes}
 use Rattle.sm_cert.proofs.YesLines.{by_head}

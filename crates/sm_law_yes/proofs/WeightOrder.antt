@@ -9,20 +9,18 @@ use Rattle.std.proofs.lemmas.List.Elements.{filter_map-append, All-append, All-n
 use Rattle.std.proofs.lemmas.List.Sorted.{IsPermutation-append_left, IsPermutation-append_right, IsPermutation-map, IsPermutation-append_comm, All-permutation, sum_by-IsPermutation}
 use Rattle.sm_agents.specs.Written.{Written}
 use Rattle.sm_instance.specs.Allowed.{IsAllowed}
-use Rattle.sm_instance.specs.Ranks.{weight_of, second_of}
+use Rattle.sm_instance.specs.Ranks.{pair_weight, weight_of, pair_second, second_of}
 use Rattle.sm_agents.specs.declared.kinds.Measure.{Measure}
 use Rattle.sm_theory.specs.Chains.{rotation_at}
 use Rattle.sm_theory.specs.ClosedSets.{IsClosed, matching_of}
-use Rattle.sm_theory.specs.Weights.{gain_of}
 use Rattle.sm_theory.specs.Net.{Net, cut_of}
 use Rattle.sm_theory.specs.Flows.{IsResidualReach}
 use Rattle.sm_theory.specs.FlowLines.{amount_on, HaveSameEnds, IsNewEdge, IsWithinRoom}
 use Rattle.sm_theory.specs.declared.flow_lines.FlowLine.{FlowLine}
 use Rattle.sm_seats.specs.SeatMarket.{seat_market}
 use Rattle.sm_seats.specs.Seating.{seating_of, written_of}
-use Rattle.sm_seats.specs.Correspondence.{weights_of}
-use Rattle.sm_seats.specs.Levels.{has_two_levels, seconds_by}
-use Rattle.sm_seats.specs.ShownNet.{net_shown, second_net_shown}
+use Rattle.sm_seats.specs.Levels.{has_two_levels}
+use Rattle.sm_seats.specs.ShownNet.{gain_by, net_shown, second_net_shown}
 use Rattle.sm_report.specs.Heads.{HeadData}
 use Rattle.sm_report.specs.Lines.{LineData}
 use Rattle.sm_report.specs.declared.keywords.Keyword.TheVariants as keyword
@@ -189,7 +187,7 @@ module _ (w : Written) (by : Measure) where
       value = value_in;
       cut = cut_in;
       total = total_in;
-      weights = weights_of by w (seating_of w);
+      weigh = pair_weight by w;
       weight = weight_of by w;
       net = net;
     } in level) same_net
@@ -201,7 +199,7 @@ module _ (w : Written) (by : Measure) where
       value = second_value_in;
       cut = second_cut_in;
       total = second_total_in;
-      weights = seconds_by by w (seating_of w);
+      weigh = pair_second w;
       weight = second_of by w;
       net = net;
     } in level) (λ i. second_net_shown by w (first_same i) (same_rotations i) (s.needs i) (same_amounts flow_in s.flows i))
@@ -210,7 +208,7 @@ module _ (w : Written) (by : Measure) where
     level_carries : (level : Level) → IsPermutation (filter_map level.flow a) (filter_map level.flow b) → filter_map level.value a ≡ filter_map level.value b
         → (z : LineData) (why : Reason) → LevelHolds w level a z why → LevelHolds w level b z why
     level_carries level moved values z reason.WrongGain h =
-        if_said (level.gain z) (λ g e. e ∙ ap (λ (xs : List (List (ℕ × ℕ))). gain_of (seat_market w) level.weights (rotation_at xs (length xs - 1))) same_rotations) h
+        if_said (level.gain z) (λ g e. e ∙ ap (λ (xs : List (List (ℕ × ℕ))). gain_by level.weigh (seating_of w) (rotation_at xs (length xs - 1))) same_rotations) h
     level_carries level moved values z reason.NoEdge h =
         if_said (level.flow z) (λ flow e.
         let line = on_nodes (size_in w b) flow in

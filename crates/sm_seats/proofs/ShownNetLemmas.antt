@@ -2,7 +2,7 @@
 use Rattle.std.proofs.Common.{◌≡◌, ℕ, zero, suc, ◌+◌, ◌<◌, ◌≤◌, ◌⊎◌, inl, inr, arith, refl, sym, ap, ◌∙◌, Bool, true, false, not, ◌&&◌, ◌||◌, List, [], ◌∷◌, length, map, get_or, Option, None, Some, eqb-true, eq-eqb}
 use Rattle.std.specs.Prelude.{◌==◌, if◌then◌else◌}
 use Rattle.std.specs.List.{list_any, position_or_len}
-use Rattle.std.proofs.lemmas.Bool.{false≢true, ltb-true, and_from}
+use Rattle.std.proofs.lemmas.Bool.{false≢true, ltb-true, and_from, cases_Bool}
 use Rattle.std.proofs.lemmas.List.Sums.{position_or_len_is, fails_before_first, passes_at_first, prefix_len-le-length}
 use Rattle.sm_lists.specs.Rows.{place_on}
 use Rattle.sm_lists.proofs.ResultLemmas.{same_bool}
@@ -10,14 +10,14 @@ use Rattle.sm_lists.proofs.Counting.{lt_or_le}
 use Rattle.sm_lists.proofs.PlaceLemmas.{get_or-place_on, entry-place_of}
 use Rattle.sm_agents.specs.Written.{Written, row as written_row, place_of as written_place_of}
 use Rattle.sm_agents.specs.declared.kinds.Measure.{Measure}
+use Rattle.sm_instance.specs.Ranks.{pair_weight}
 use Rattle.sm_market.specs.Lists.{row, entry, place_of}
 use Rattle.sm_market.specs.Matching.{Places, held, IsMatching}
 use Rattle.sm_theory.specs.Rotations.{pair_of, proposer_at, is_moved, reviewer_before, reviewer_after, place_after, IsExposed, eliminated}
 use Rattle.sm_theory.specs.Chains.{rotation_at, stage, IsCompleteChain}
-use Rattle.sm_theory.specs.Net.{Net}
 use Rattle.sm_theory.specs.SecondNets.{second_net, second_net_of}
 use Rattle.sm_theory.specs.Conditions.{level_at, has_level, moves_to, moves_off, entry_node as entry_by_level, exit_node as exit_by_level, forces as forces_level, forbids as forbids_level, leads_to_need, rise_of, fall_of, net_of}
-use Rattle.sm_theory.proofs.Net.Tests.{and_parts, true_or_false}
+use Rattle.sm_theory.proofs.Net.Tests.{and_parts}
 use Rattle.sm_theory.proofs.Bridge.Places.{held_map, held_map_past}
 use Rattle.sm_theory.proofs.Bridge.Chain.{stage_stable}
 use Rattle.sm_seats.specs.SeatMarket.{seat_market}
@@ -25,7 +25,9 @@ use Rattle.sm_seats.specs.Seating.{seating_of, reviewer_of, written_place, level
 use Rattle.sm_seats.specs.Correspondence.{IsSeating, leveled, weights_of}
 use Rattle.sm_seats.proofs.SeatingLemmas.{level_is}
 use Rattle.sm_seats.proofs.WrittenLemmas.{row-seating}
-use Rattle.sm_seats.specs.Levels.{seconds_by}
+use Rattle.sm_seats.specs.Levels.{has_two_levels, seconds_by}
+use Rattle.sm_theory.specs.Weights.{gain_of}
+use Rattle.sm_seats.proofs.GainLemmas.{IsOnLists, exposed_on_lists, gain_at_is, second_gain_at_is}
 use Rattle.sm_seats.specs.ShownNet.{is_at_seat_of, enters, leaves, entry_node, exit_node, forces, forbids, gain_shown, second_gain_shown, net_shown, second_net_shown}
 
 -- the first places of two tests that are the same at each place
@@ -94,7 +96,7 @@ module _ {w : Written} (h : IsSeating w (seating_of w)) where
     -- p leaves the level of r by the rotation by which it leaves r
     leaves_level : {rotation : List (ℕ × ℕ)} → IsExposed (seat_market w) m rotation → (p r : ℕ)
         → moves_off (seat_market w) (levels_of (seating_of w)) p (written_place_of w.proposers p r + 1) rotation ≡ leaves (seating_of w) p r rotation
-    leaves_level {rotation} x p r = go (true_or_false (is_moved rotation p))
+    leaves_level {rotation} x p r = go (cases_Bool (is_moved rotation p))
       where
         go : (is_moved rotation p ≡ true) ⊎ (is_moved rotation p ≡ false)
             → moves_off (seat_market w) (levels_of (seating_of w)) p (written_place_of w.proposers p r + 1) rotation ≡ leaves (seating_of w) p r rotation
@@ -126,7 +128,7 @@ module _ {w : Written} (h : IsSeating w (seating_of w)) where
         → is_at_seat_of (seating_of w) p r (held (eliminated (seat_market w) m rotation).proposers p) ≡ false
     still_elsewhere {rotation} x p r other none = elim (lt_or_le p (length (seat_market w).proposers)) [
       | inr past ↦ ap (is_at_seat_of (seating_of w) p r) (held_map_past (seat_market w).proposers (place_after (seat_market w) m.proposers rotation) p past)
-      | inl here ↦ ap (is_at_seat_of (seating_of w) p r) (held_map (seat_market w).proposers (place_after (seat_market w) m.proposers rotation) p here) ∙ go (true_or_false (is_moved rotation p))
+      | inl here ↦ ap (is_at_seat_of (seating_of w) p r) (held_map (seat_market w).proposers (place_after (seat_market w) m.proposers rotation) p here) ∙ go (cases_Bool (is_moved rotation p))
     ]
       where
         go : (is_moved rotation p ≡ true) ⊎ (is_moved rotation p ≡ false) → is_at_seat_of (seating_of w) p r (place_after (seat_market w) m.proposers rotation p) ≡ false
@@ -160,7 +162,7 @@ module _ {w : Written} (h : IsSeating w (seating_of w)) where
       first_entry other =
           let most : position_or_len comes rotations ≤ length rotations = prefix_len-le-length _ rotations in
           position_or_len_is (enters (seating_of w) p r) rotations (position_or_len comes rotations) [] most
-          (λ k less. not_entered k less (omega (arith, most)) (true_or_false (enters (seating_of w) p r (rotation_at rotations k))))
+          (λ k less. not_entered k less (omega (arith, most)) (cases_Bool (enters (seating_of w) p r (rotation_at rotations k))))
           (λ less. enters_there (matching_at _ most) (chain.exposed _ less) p r (elsewhere other _ (omega arith) most) (passes_at_first comes rotations [] less))
         where
           not_entered : (k : ℕ) → k < position_or_len comes rotations → k < length rotations → (enters (seating_of w) p r (rotation_at rotations k) ≡ true) ⊎ (enters (seating_of w) p r (rotation_at rotations k) ≡ false)
@@ -170,7 +172,7 @@ module _ {w : Written} (h : IsSeating w (seating_of w)) where
 
       -- the nodes of a pair
       entry_is : entry_node (seating_of w) first rotations (p, r) ≡ entry_by_level (seat_market w) (levels_of (seating_of w)) first rotations p level
-      entry_is = go (true_or_false (is_at_seat_of (seating_of w) p r (held first.proposers p)))
+      entry_is = go (cases_Bool (is_at_seat_of (seating_of w) p r (held first.proposers p)))
         where
           begins : has_level (levels_of (seating_of w)) p level (held first.proposers p) ≡ is_at_seat_of (seating_of w) p r (held first.proposers p)
           begins = held_level (matching_at 0 (omega arith)) p r
@@ -195,14 +197,24 @@ module _ {w : Written} (h : IsSeating w (seating_of w)) where
     forbidden_is : (i j : ℕ) (pair : ℕ × ℕ) → forbids (seating_of w) first rotations pair i j ≡ forbids_level (seat_market w) (levels_of (seating_of w)) first rotations (with_level pair) i j
     forbidden_is i j pair = λ t. i == entry_is pair.0 pair.1 t && j == exit_is pair.0 pair.1 t
 
+    -- the gains that are shown are those by the weights of the places
+    on_lists : (k : ℕ) → k < length rotations → IsOnLists (seat_market w) (rotation_at rotations k)
+    on_lists k less = exposed_on_lists (matching_at k (omega arith)) (chain.exposed k less)
+
+    gains_are : (by : Measure) (k : ℕ) → gain_shown by w rotations k ≡ gain_of (seat_market w) (weights_of by w (seating_of w)) (rotation_at rotations k)
+    gains_are by = gain_at_is (pair_weight by w) (seating_of w) rotations on_lists
+
+    second_gains_are : (by : Measure) → has_two_levels by w ≡ true → (k : ℕ) → second_gain_shown w rotations k ≡ gain_of (seat_market w) (seconds_by by w (seating_of w)) (rotation_at rotations k)
+    second_gains_are by two = second_gain_at_is by w (seating_of w) two rotations on_lists
+
     -- The net as it is shown is the net by levels: the seats of one reviewer are those of one level on a proposer's list, and the first
     -- rotation that moves the proposer to one of them moves it from a seat of another reviewer.
     pub net_is_shown : (by : Measure) (needs : List (List ℕ)) → net_shown by w first rotations needs
         ≡ net_of (seat_market w) (levels_of (seating_of w)) (weights_of by w (seating_of w)) (leveled w w.forced) (leveled w w.forbidden) first rotations needs
     net_is_shown by needs = λ t. record {
       size = length rotations;
-      supply = λ k. fall_of (gain_shown by w rotations k);
-      drain = λ k. rise_of (gain_shown by w rotations k);
+      supply = λ k. fall_of (gains_are by k t);
+      drain = λ k. rise_of (gains_are by k t);
       unbounded = λ i j. not (i == j) && (not (i == 0 && j == suc (length rotations))
           && (leads_to_need needs i j || (forced_edges i j t || forbidden_edges i j t)));
     }
@@ -213,7 +225,7 @@ module _ {w : Written} (h : IsSeating w (seating_of w)) where
         forbidden_edges : (i j : ℕ) → list_any (λ pair. forbids (seating_of w) first rotations pair i j) w.forbidden ≡ list_any (λ c. forbids_level (seat_market w) (levels_of (seating_of w)) first rotations c i j) (leveled w w.forbidden)
         forbidden_edges i j = any_mapped with_level (λ c. forbids_level (seat_market w) (levels_of (seating_of w)) first rotations c i j) (λ pair. forbids (seating_of w) first rotations pair i j) (forbidden_is i j) w.forbidden
 
-    -- and so is the second net of a flow
-    pub second_net_is_shown : (by : Measure) (needs : List (List ℕ)) (flow : ℕ → ℕ → ℕ) → second_net_shown by w first rotations needs flow
+    -- and in two levels so is the second net of a flow
+    pub second_net_is_shown : (by : Measure) → has_two_levels by w ≡ true → (needs : List (List ℕ)) (flow : ℕ → ℕ → ℕ) → second_net_shown by w first rotations needs flow
         ≡ second_net_of (seat_market w) (levels_of (seating_of w)) (weights_of by w (seating_of w)) (seconds_by by w (seating_of w)) (leveled w w.forced) (leveled w w.forbidden) first rotations needs flow
-    second_net_is_shown by needs flow = ap (λ (net : Net). second_net net flow (second_gain_shown by w rotations)) (net_is_shown by needs)
+    second_net_is_shown by two needs flow = λ t. second_net (net_is_shown by needs t) flow (λ k. second_gains_are by two k t)

@@ -21,4 +21,4 @@ lasts_stable = stable_from_test (seat_market turning_hospitals) lasts (matching_
 
 -- by tests that compute
 pub turning : TurningHospitals
-turning = (market_from_test (seat_market turning_hospitals) refl refl, firsts_stable, lasts_stable, refl, refl, refl)
+turning = (market_from_test (seat_market turning_hospitals) refl refl, firsts_stable, lasts_stable, refl, refl, refl, refl, refl)

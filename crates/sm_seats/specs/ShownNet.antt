@@ -1,21 +1,19 @@
 -- The net whose cuts are the closed sets of allowed matchings, as it is read off the rotations that an answer shows: whom each of
--- them moves to a seat of which reviewer, and from a seat of which one.
-use Rattle.std.specs.Prelude.{ℕ, suc, ◌==◌, if◌then◌else◌, Bool, false, not, ◌&&◌, ◌||◌, List, length, Option, None, Some, ℤ}
+-- them moves to a seat of which reviewer, and from a seat of which one; and what each of them gains.
+use Rattle.std.specs.Prelude.{ℕ, suc, ◌==◌, if◌then◌else◌, Bool, false, not, ◌&&◌, ◌||◌, List, length, Option, None, Some, ℤ, ◌-ℤ◌}
 use Rattle.std.specs.List.{position_or_len, list_any}
 use Rattle.sm_agents.specs.Written.{Written}
 use Rattle.sm_agents.specs.declared.kinds.Measure.{Measure}
-use Rattle.sm_market.specs.Lists.{entry}
+use Rattle.sm_instance.specs.Ranks.{pair_weight, pair_second}
+use Rattle.sm_market.specs.Lists.{entry, place_of}
 use Rattle.sm_market.specs.Matching.{Places, held}
-use Rattle.sm_theory.specs.Rotations.{is_moved, reviewer_before, reviewer_after}
+use Rattle.sm_theory.specs.Rotations.{proposer_at, reviewer_at, target_at, is_moved, reviewer_before, reviewer_after}
 use Rattle.sm_theory.specs.Conditions.{leads_to_need, rise_of, fall_of}
 use Rattle.sm_theory.specs.Net.{Net}
 use Rattle.sm_theory.specs.SecondNets.{second_net}
-use Rattle.sm_theory.specs.Weights.{gain_of}
+use Rattle.sm_theory.specs.Weights.{total}
 use Rattle.sm_theory.specs.Chains.{rotation_at}
-use Rattle.sm_seats.specs.SeatMarket.{seat_market}
 use Rattle.sm_seats.specs.Seating.{Seating, seating_of, reviewer_of}
-use Rattle.sm_seats.specs.Correspondence.{weights_of}
-use Rattle.sm_seats.specs.Levels.{seconds_by}
 
 -- p has a seat of r where it has this place
 abbrev pub is_at_seat_of : Seating → (p r : ℕ) → Option ℕ → Bool
@@ -51,13 +49,23 @@ forces s first rotations pair i j =
 abbrev pub forbids : Seating → Places → List (List (ℕ × ℕ)) → ℕ × ℕ → ℕ → ℕ → Bool
 forbids s first rotations pair i j = i == entry_node s first rotations pair && j == exit_node s rotations pair
 
--- the gain of a rotation by the weights of a measure
+-- the weight of p and the reviewer of a seat, where `weigh` gives that of p and each place on its written list
+abbrev pub seat_weight : (weigh : ℕ → Option ℕ → ℤ) → Seating → (p seat : ℕ) → ℤ
+seat_weight weigh s p seat = weigh p (Some (place_of s.lists p (reviewer_of s seat)))
+
+-- the gain of a rotation: the weights of its new pairs less those of its old ones
+-- (Irving, Leather and Gusfield 1987; Gusfield and Irving 1989, chapter 3)
+abbrev pub gain_by : (weigh : ℕ → Option ℕ → ℤ) → Seating → List (ℕ × ℕ) → ℤ
+gain_by weigh s rotation = total (λ i.
+    seat_weight weigh s (proposer_at rotation i) (target_at rotation i) -ℤ seat_weight weigh s (proposer_at rotation i) (reviewer_at rotation i)) (length rotation)
+
+-- the gain of rotation k by the weights of a measure
 abbrev pub gain_shown : Measure → Written → List (List (ℕ × ℕ)) → ℕ → ℤ
-gain_shown by w rotations k = gain_of (seat_market w) (weights_of by w (seating_of w)) (rotation_at rotations k)
+gain_shown by w rotations k = gain_by (pair_weight by w) (seating_of w) (rotation_at rotations k)
 
 -- its gain by second weights
-abbrev pub second_gain_shown : Measure → Written → List (List (ℕ × ℕ)) → ℕ → ℤ
-second_gain_shown by w rotations k = gain_of (seat_market w) (seconds_by by w (seating_of w)) (rotation_at rotations k)
+abbrev pub second_gain_shown : Written → List (List (ℕ × ℕ)) → ℕ → ℤ
+second_gain_shown w rotations k = gain_by (pair_second w) (seating_of w) (rotation_at rotations k)
 
 -- The net of the gains, the needs and the conditions. A rotation with a positive gain has so much room to the sink, one with a
 -- negative gain so much room from the source, and no edge leads from the source to the sink.
@@ -76,4 +84,4 @@ net_shown by w first rotations needs =
 -- the second net of a flow in it, with the second gains
 -- (Picard and Queyranne 1980)
 abbrev pub second_net_shown : Measure → Written → Places → List (List (ℕ × ℕ)) → List (List ℕ) → (flow : ℕ → ℕ → ℕ) → Net
-second_net_shown by w first rotations needs flow = second_net (net_shown by w first rotations needs) flow (second_gain_shown by w rotations)
+second_net_shown by w first rotations needs flow = second_net (net_shown by w first rotations needs) flow (second_gain_shown w rotations)

@@ -1,16 +1,19 @@
 -- Small instances whose seats are known by hand, so that the definitions mean what they should.
-use Rattle.std.specs.Prelude.{◌≡◌, [], ◌∷◌, None, Some, replicate}
+use Rattle.std.specs.Prelude.{◌≡◌, ℕ, List, [], ◌∷◌, None, Some, replicate, negsuc}
 use Rattle.std.specs.List.{range_with_len}
 use Rattle.sm_agents.specs.Written.{Written, plain_written}
-use Rattle.sm_instance.specs.Ranks.{rank_vector_of}
+use Rattle.sm_instance.specs.Ranks.{rank_vector_of, pair_weight}
 use Rattle.sm_instance.specs.Witnesses.{agent, small_hospitals, settled, inert_entry}
 use Rattle.sm_agents.specs.declared.kinds.Kind.TheVariants.{Hospitals}
+use Rattle.sm_agents.specs.declared.kinds.Measure.TheVariants.{Ranks}
 use Rattle.sm_market.specs.Lists.{IsMarket}
 use Rattle.sm_market.specs.Matching.{Places}
 use Rattle.sm_market.specs.Stable.{IsStable}
+use Rattle.sm_theory.specs.Rotations.{eliminated}
 use Rattle.sm_seats.specs.SeatMarket.{seats_of, seat_market}
 use Rattle.sm_seats.specs.SeatEntries.{seat_entries_before, first_too_many}
 use Rattle.sm_seats.specs.Seating.{seating_of, written_of, levels_of}
+use Rattle.sm_seats.specs.ShownNet.{gain_by}
 use Rattle.sm_seats.specs.Taken.{places_taken}
 
 -- Two seats of h, one of k and none of z, which has no place. k is inert on c's list, and z has a rank on b's.
@@ -46,7 +49,12 @@ firsts = record { proposers = Some 0 ∷ Some 1 ∷ Some 0 ∷ []; reviewers = S
 abbrev pub lasts : Places
 lasts = record { proposers = Some 1 ∷ Some 2 ∷ Some 1 ∷ []; reviewers = Some 0 ∷ Some 1 ∷ Some 0 ∷ [] }
 
--- both are stable, and r0 is at h in both, though at another seat
+-- the rotation from one to the other
+abbrev pub turning_rotation : List (ℕ × ℕ)
+turning_rotation = (0, 0) ∷ (1, 1) ∷ (2, 2) ∷ []
+
+-- Both are stable, and r0 is at h in both, though at another seat. By ranks r1 weighs 1 + 3 with h and 2 + 1 with k, and r0 and r2
+-- weigh as much as before: so the rotation's gain is -1.
 abbrev pub TurningHospitals : Type 0
 TurningHospitals = IsMarket (seat_market turning_hospitals)
     × IsStable (seat_market turning_hospitals) firsts
@@ -54,6 +62,8 @@ TurningHospitals = IsMarket (seat_market turning_hospitals)
     × (rank_vector_of turning_hospitals (written_of (seating_of turning_hospitals) firsts.proposers) ≡ 1 ∷ 1 ∷ 1 ∷ [])
     × (rank_vector_of turning_hospitals (written_of (seating_of turning_hospitals) lasts.proposers) ≡ 1 ∷ 2 ∷ 2 ∷ [])
     × (places_taken turning_hospitals (Some 0 ∷ Some 1 ∷ Some 1 ∷ []) ≡ lasts.proposers)
+    × (eliminated (seat_market turning_hospitals) firsts turning_rotation ≡ lasts)
+    × (gain_by (pair_weight Ranks turning_hospitals) (seating_of turning_hospitals) turning_rotation ≡ negsuc 0)
 
 -- 1,024 residents, and two hospitals with a place for each of them: the seats of one have as many entries as there may be
 abbrev pub full_hospitals : Written

@@ -14,7 +14,7 @@ pub fn marriage_seats()
     ensures { MarriageSeats }
 {}
 
-/// Two stable matchings, in which a resident has different seats of one hospital.
+/// Two stable matchings, in which a resident has different seats of one hospital, and the gain of the rotation between them.
 pub fn turning_hospitals()
     ensures { TurningHospitals }
 {}

@@ -9,6 +9,7 @@ use Rattle.sm_seats.specs.Levels.{has_two_levels}
 use Rattle.sm_check_clauses.specs.Said.{rotations_in}
 use Rattle.sm_check_clauses.specs.Walks.{AreChainMoves}
 use Rattle.sm_check_weight.proofs.MoveLemmas.{can_be_weighed}
+use Rattle.sm_check_weight.proofs.GainLemmas.{moves_on_lists}
 use Rattle.sm_check_weight.proofs.SecondLemmas.{second_is}
 use Rattle.sm_check_weight.proofs.judging.make_second.Goals as goal
 
@@ -46,6 +47,7 @@ returns-clause-kept c = λ lines above k ground.
       edges = k.edges;
       second_net = record {
         same = second_is w by above c.args.claim.now.net c.in_ok-second_net.field-0 c.said.result.now c.in_ok-gains.gains.items k.net (c.said.ensures ∙ k.first.flow.front)
+            two (moves_on_lists ground.walk_of.is_walk.is_walk.moves)
             (gains ∙ ap (λ (ws : List (List ℤ)). map (gain_of (seat_market w) ws) rotations) seconds) c.in_ok-second_net.ensures;
         none = λ one. absurd (false≢true (sym one ∙ two));
       };

@@ -17,8 +17,8 @@ returns c =
     let e = c.is_empty.ensures in
     let t = c.if-is_empty.false in
     let some = not_empty old.lines.items (let h : 1 ≤ length old.lines.items = grind (arith, nat_tests) in h) in
-    let next : layouts_left c.take.new.self ≡ filter_map (λ parts. behind parts (opening_of line)) (layouts_left old.left) =
-    c.take.ensures.left ∙ ap (λ o. filter_map (λ parts. behind parts o) (layouts_left old.left)) c.opening_of.ensures in
+    let next : layouts_left c.take.new.self ≡ filter_map (λ parts. behind parts (opening_of input line)) (layouts_left old.left) =
+    c.take.ensures.left ∙ ap (λ o. filter_map (λ parts. behind parts o) (layouts_left old.left)) (c.opening_of.ensures.opening input) in
     let lefts = lefts_next input (lines_in old) (layouts_left old.left) (layouts_left c.take.new.self) line some c.requires.so_far.lefts next in
     record {
       same_lines = refl;
