@@ -35,6 +35,28 @@ impl Crosses {
         self.reviewers.at(r)
     }
 
+    /// Those of both sides' lists, without who names whom. Takes constant time.
+    fn into_sides(self) -> CrossPlaces<Cross>
+        ensures rows { result.rows ≡ self.proposers }
+        ensures others { result.others ≡ self.reviewers }
+    {
+        CrossPlaces {
+            rows: self.proposers,
+            others: self.reviewers,
+        }
+    }
+
+    /// The same of copies. Takes time and memory in proportion to the entries.
+    fn copied_sides(&self, alloc: Global) -> Result<CrossPlaces<Cross>, AllocError>
+        ensures rows { IfOk result (λ sides. sides.rows ≡ self.now.proposers) }
+        ensures others { IfOk result (λ sides. sides.others ≡ self.now.reviewers) }
+    {
+        Ok(CrossPlaces {
+            rows: self.proposers.copy(alloc)?,
+            others: self.reviewers.copy(alloc)?,
+        })
+    }
+
     /// Who names a reviewer. Takes constant time.
     pub(crate) fn namings_of(&self, r: u32) -> &[CompactNaming]
         requires { r < length self.now.namings }
@@ -59,6 +81,22 @@ impl<'a> LentCrosses<'a> {
         match self {
             LentCrosses::Kept(crosses) => crosses,
             LentCrosses::Made(crosses) => crosses,
+        }
+    }
+
+    /// Those of both sides' lists, for a keeper of its own: moved where they were made, and copied where the instance keeps them.
+    /// Takes time and memory in proportion to the entries where they are copied, and constant time else.
+    ///
+    /// # Errors
+    ///
+    /// `AllocError` where memory ran out, and only then.
+    pub fn into_sides(self, alloc: Global) -> Result<CrossPlaces<Cross>, AllocError>
+        ensures rows { IfOk result (λ sides. sides.rows ≡ (crosses_lent self.entry).proposers) }
+        ensures others { IfOk result (λ sides. sides.others ≡ (crosses_lent self.entry).reviewers) }
+    {
+        match self {
+            LentCrosses::Kept(crosses) => crosses.copied_sides(alloc),
+            LentCrosses::Made(crosses) => Ok(crosses.into_sides()),
         }
     }
 }

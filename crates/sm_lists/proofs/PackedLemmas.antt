@@ -10,7 +10,8 @@ use Rattle.std.specs.Vec.{with_items}
 use Rattle.std.specs.declared.alloc.Global.{Global}
 use Rattle.sm_lists.specs.Rows.{lists_in}
 use Rattle.sm_lists.specs.declared.packed.Slot.{Slot}
-use Rattle.sm_lists.specs.Packed.{no_slot, filled_in, packed_list, packed_lists, emptied, AreApart, AreSlots, AreFull, HasSpace}
+use Rattle.sm_lists.specs.Packed.{no_slot, filled_in, packed_list, packed_lists, emptied, span_of, AreApart, AreSlots, AreFull, HasSpace}
+use Rattle.sm_lists.specs.Spans.{no_span, list_in, AreSpans}
 use Rattle.sm_lists.proofs.ItemLemmas.{set_cases}
 
 -- values that two functions give alike
@@ -275,3 +276,21 @@ pub slots_written : (slots : Vec Slot Global) (new : List Slot) → new ≡ map 
 slots_written slots new is =
     let same : slots.len ≡ length slots.items = slots.ok.0 in
     with_items_is slots new (ap length is ∙ length-map slots.items emptied ∙ sym same) ∙ is
+
+-- where lists of slots stand
+span_at : (slots : List Slot) (a : ℕ) → get_or (map span_of slots) a no_span ≡ span_of (get_or slots a no_slot)
+span_at [] a = refl
+span_at (slot ∷ slots) zero = refl
+span_at (slot ∷ slots) (suc a) = span_at slots a
+
+-- they end among the items, and not before they start
+pub spans_of_slots : (count : ℕ) (slots : List Slot) → AreSlots count slots → AreSpans count (map span_of slots)
+spans_of_slots count slots h = record {
+  ordered = λ a. rw (span_at slots a) (h.ordered a);
+  within = λ a. rw (span_at slots a) (omega (arith, h.filled a, h.within a));
+}
+
+-- and they are the lists
+pub lists_at_spans : {T : Type 0} (items : List T) (slots : List Slot) → map (list_in items) (map span_of slots) ≡ packed_lists items slots
+lists_at_spans items [] = refl
+lists_at_spans items (slot ∷ slots) = ap (λ lists. packed_list items slot ∷ lists) (lists_at_spans items slots)

@@ -1,9 +1,10 @@
 -- Lists that stand one behind another.
-use Rattle.std.proofs.Common.{◌≡◌, ℕ, zero, suc, ◌+◌, ◌-◌, ◌≤◌, ◌++◌, ◌∷◌, [], List, Vec, length, map, take, drop, replicate, get_or, refl, ap, ◌∙◌, arith}
-use Rattle.std.proofs.lemmas.List.{map-append, take_all, take-append-le, drop-append-le, length-append, length-drop}
+use Rattle.std.proofs.Common.{◌≡◌, ℕ, zero, suc, ◌+◌, ◌-◌, ◌≤◌, ◌++◌, ◌∷◌, [], List, Vec, length, map, take, drop, replicate, get_or, Option, unwrap_or, refl, ap, ◌∙◌, arith}
+use Rattle.std.proofs.lemmas.List.{take-map, drop-map, map-append, take_all, take-append-le, drop-append-le, length-append, length-drop}
 use Rattle.std.proofs.Math.Seq.{drop-append_seam, take-length}
 use Rattle.std.specs.declared.alloc.Global.{Global}
 use Rattle.sm_lists.specs.declared.span.Span.{Span}
+use Rattle.sm_lists.specs.Places.{places_in}
 use Rattle.sm_lists.specs.Spans.{no_span, list_in, rows_in, AreSpans}
 
 -- more entries behind a list change nothing of it
@@ -71,3 +72,11 @@ resized_is spans long count s is =
     let same : spans.len ≡ length spans.items = spans.ok.0 in
     ap (λ t. t ++ replicate (long + count - spans.len) s) (take_all (long + count) spans.items (omega arith))
     ∙ ap (λ (n : ℕ). spans.items ++ replicate n s) (let left : long + count - spans.len ≡ count = omega arith in left)
+
+-- lists of cross places are those of the places among all of them
+pub places_in_spans : (crosses : List (Option ℕ)) (spans : List Span) → rows_in (places_in crosses) spans ≡ map places_in (map (list_in crosses) spans)
+places_in_spans crosses [] = refl
+places_in_spans crosses (span ∷ spans) =
+    let f : Option ℕ → ℕ = λ o. unwrap_or o 0 in
+    let list : list_in (places_in crosses) span ≡ places_in (list_in crosses span) = ap (take (span.end - span.start)) (drop-map f span.start crosses) ∙ take-map f (span.end - span.start) (drop span.start crosses) in
+    ap (λ l. l ∷ rows_in (places_in crosses) spans) list ∙ ap (λ rows. places_in (list_in crosses span) ∷ rows) (places_in_spans crosses spans)

@@ -1,6 +1,7 @@
 -- Lists of which each stands between two places of all items, with room behind it.
 use Rattle.std.specs.Prelude.{◌≡◌, ◌≢◌, ℕ, ◌-◌, ◌<◌, ◌≤◌, ◌⊎◌, List, length, map, take, drop, slice_index_or}
 use Rattle.sm_lists.specs.declared.packed.Slot.{Slot}
+use Rattle.sm_lists.specs.declared.span.Span.{Span}
 
 -- what stands for a slot past the last
 abbrev pub no_slot : Slot
@@ -21,6 +22,10 @@ packed_lists items slots = map (packed_list items) slots
 -- the slot of a list whose items are taken off
 abbrev pub emptied : Slot → Slot
 emptied slot = record { start = slot.start; end = slot.start; limit = slot.limit }
+
+-- where the list of a slot stands
+abbrev pub span_of : Slot → Span
+span_of slot = record { start = slot.start; end = slot.end }
 
 -- no item is in both slots
 abbrev pub AreApart : Slot → Slot → Type 0

@@ -7,7 +7,7 @@ abbrev pub no_span : Span
 no_span = record { start = 0; end = 0 }
 
 -- the entries of a list
-abbrev pub list_in : List ℕ → Span → List ℕ
+abbrev pub list_in : {X : Type 0} → List X → Span → List X
 list_in entries span = take (span.end - span.start) (drop span.start entries)
 
 -- all lists

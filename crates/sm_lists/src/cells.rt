@@ -1,23 +1,27 @@
 //! Numbers that are kept in two bytes where they fit.
 
-ghost use Rattle.std.specs.Prelude.{◌≡◌, ℕ, ◌<◌, ◌^◌, ◌↔◌, ◌++◌, [], length, slice_index, IfOk, OnOk, OnErr, IsTrue};
+ghost use Rattle.std.specs.Prelude.{◌≡◌, ℕ, ◌-◌, ◌<◌, ◌^◌, ◌↔◌, ◌++◌, [], length, slice_index, IfOk, OnOk, OnErr, IsTrue};
+ghost use Rattle.sm_lists.specs.Places.{places_in};
 
+use crate::cross::Cross;
+use crate::place::KeptPlace;
 use std::alloc::{AllocError, Global};
 use std::marker::Model;
 
 /// Numbers in order: in two bytes each, and in four from the first list on that was added with one that doesn't fit.
 #[derive(Debug, Drop)]
 pub(crate) struct Cells {
-    narrow: Vec<u16>,
+    narrow: Vec<Cross>,
     wide: Vec<u32>,
 }
 
 impl Model for Cells {
     ghost use Rattle.std.specs.Prelude.{ℕ, List, ◌++◌};
+    ghost use Rattle.sm_lists.specs.Places.{places_in};
 
     ghost Value = { List ℕ };
 
-    ghost view = { λ c. c.narrow.items ++ c.wide.items };
+    ghost view = { λ c. places_in c.narrow.items ++ c.wide.items };
 }
 
 impl Cells {
@@ -45,6 +49,16 @@ impl Cells {
         }
     }
 
+    /// These places, in two bytes each, and 0 where there is none. Takes constant time.
+    pub(crate) fn of_crosses(alloc: Global, places: Vec<Cross>) -> Cells
+        ensures { result ≡ places_in places.items }
+    {
+        Cells {
+            narrow: places,
+            wide: Vec::new(alloc),
+        }
+    }
+
     /// How many numbers there are.
     pub(crate) fn len(&self) -> usize
         ensures { result ≡ length self.now }
@@ -59,7 +73,7 @@ impl Cells {
     {
         let narrow = self.narrow.len();
         if place < narrow {
-            u32::from(self.narrow[place])
+            self.narrow[place].place().unwrap_or(0)
         } else {
             self.wide[place - narrow]
         }
@@ -99,36 +113,36 @@ impl Cells {
     }
 }
 
-/// Does each number of a list fit two bytes?
+/// Does each number of a list fit 15 bits, and so two bytes as a place?
 fn all_fit(list: &[u32]) -> bool
-    ensures { IsTrue result ↔ ((i : ℕ) → i < length list.now → slice_index list.now i < 2 ^ 16) }
+    ensures { IsTrue result ↔ ((i : ℕ) → i < length list.now → slice_index list.now i < 2 ^ 15) }
 {
     let mut bits = 0;
     for number in list {
         bits |= *number;
     }
-    bits < 65_536
+    bits < 32_768
 }
 
 /// Adds numbers that fit two bytes.
-fn add_narrow(cells: &mut Vec<u16>, list: &[u32]) -> Result<(), AllocError>
-    requires { (i : ℕ) → i < length list.now → slice_index list.now i < 2 ^ 16 }
-    ensures added { OnOk result (cells.new.items ≡ cells.old.items ++ list.now) }
-    ensures kept { OnErr result (cells.new.items ≡ cells.old.items) }
+fn add_narrow(cells: &mut Vec<Cross>, list: &[u32]) -> Result<(), AllocError>
+    requires { (i : ℕ) → i < length list.now → slice_index list.now i < 2 ^ 15 }
+    ensures added { OnOk result (places_in cells.new.items ≡ places_in cells.old.items ++ list.now) }
+    ensures kept { OnErr result (places_in cells.new.items ≡ places_in cells.old.items) }
 {
     let before = cells.len();
-    cells.resize(before + list.len(), 0)?;
+    cells.resize(before + list.len(), Cross::of(None))?;
     write_narrow(&mut cells[before..], list);
     Ok(())
 }
 
 /// Writes numbers that fit two bytes.
-fn write_narrow(cells: &mut [u16], list: &[u32])
+fn write_narrow(cells: &mut [Cross], list: &[u32])
     requires as_many { length cells.old ≡ length list.now }
-    requires fit { (i : ℕ) → i < length list.now → slice_index list.now i < 2 ^ 16 }
-    ensures { cells.new ≡ list.now }
+    requires fit { (i : ℕ) → i < length list.now → slice_index list.now i < 2 ^ 15 }
+    ensures { places_in cells.new ≡ list.now }
 {
     for at in 0..list.len() {
-        cells[at] = list[at] as u16;
+        cells[at] = Cross::of(Some(list[at]));
     }
 }

@@ -7,7 +7,7 @@ use std::marker::Model;
 
 /// The place of a list's owner on the list of an agent that it names, or none where it isn't on it, so that the entry is
 /// inert. The place is less than 65,535: a quarter as large as an `Option<u32>`.
-#[derive(Clone, Copy)]
+#[derive(Clone, Copy, Debug)]
 pub struct Cross {
     /// One more than the place; 0 where there is none.
     past: u16,

@@ -3,8 +3,10 @@
 ghost use Rattle.std.specs.Prelude.{◌≡◌, ◌+◌, ◌<◌, ◌≤◌, ◌++◌, ◌∷◌, [], length, map, replicate, slice_set, slice_index_or, IfOk, OnOk, OnErr};
 ghost use Rattle.sm_lists.specs.Rows.{lists_in};
 ghost use Rattle.sm_lists.specs.Limits.{AreWithinLimits};
-ghost use Rattle.sm_lists.specs.Packed.{AreFull, HasSpace, emptied};
+ghost use Rattle.sm_lists.specs.Packed.{AreFull, HasSpace, emptied, span_of};
+ghost use Rattle.sm_lists.specs.Spans.{list_in, AreSpans};
 
+use crate::span::Span;
 use std::alloc::{AllocError, Global};
 use std::marker::Model;
 
@@ -133,6 +135,44 @@ impl<T: Copy> Packed<T> {
     {
         self.slots.len()
     }
+
+    /// The same lists. Takes time and memory in proportion to the lists and the room for their items.
+    ///
+    /// # Errors
+    ///
+    /// `AllocError` where memory ran out, and only then.
+    pub fn copy(&self, alloc: Global) -> Result<Packed<T>, AllocError>
+        ensures { IfOk result (λ copy. copy ≡ self.now) }
+    {
+        Ok(Packed {
+            items: Vec::from_slice(alloc, &self.items)?,
+            slots: Vec::from_slice(alloc, &self.slots)?,
+        })
+    }
+
+    /// All items, and where the list of each agent stands among them. Takes time and memory in proportion to the lists.
+    pub(crate) fn into_spans(self, alloc: Global) -> Result<(Vec<T>, Vec<Span>), AllocError>
+        ensures spans { IfOk result (λ parts. AreSpans (length parts.0.items) parts.1.items) }
+        ensures lists { IfOk result (λ parts. map (list_in parts.0.items) parts.1.items ≡ self) }
+    {
+        let Packed { items, slots } = self;
+        let spans = spans_of(alloc, &slots)?;
+        Ok((items, spans))
+    }
+}
+
+/// Where the lists stand that have these slots.
+fn spans_of(alloc: Global, slots: &[Slot]) -> Result<Vec<Span>, AllocError>
+    ensures { IfOk result (λ spans. spans.items ≡ map span_of slots.now) }
+{
+    let mut spans = Vec::with_capacity(alloc, slots.len())?;
+    for slot in slots {
+        spans.push(Span {
+            start: slot.start,
+            end: slot.end,
+        })?;
+    }
+    Ok(spans)
 }
 
 /// A slot for each of these lists, one behind another and all full, and how many items they have.

@@ -1,11 +1,14 @@
 //! Lists that share their entries but for a number that is added to each.
 
-ghost use Rattle.std.specs.Prelude.{◌≡◌, ℕ, ◌+◌, ◌<◌, ◌≤◌, ◌^◌, ◌++◌, ◌∷◌, [], length, slice_index, IfOk, OnOk, OnErr};
+ghost use Rattle.std.specs.Prelude.{◌≡◌, ℕ, ◌+◌, ◌<◌, ◌≤◌, ◌^◌, ◌++◌, ◌∷◌, [], length, map, slice_index, IfOk, OnOk, OnErr};
+ghost use Rattle.sm_lists.specs.Places.{places_in};
 ghost use Rattle.sm_lists.specs.Rows.{row, entry};
 ghost use Rattle.sm_lists.specs.Spans.{rows_in, AreSpans};
 ghost use Rattle.sm_lists.specs.Raised.{raised_lists};
 
 use crate::cells::Cells;
+use crate::cross::Cross;
+use crate::packed::Packed;
 use crate::rows::Rows;
 use crate::span::Span;
 use std::alloc::{AllocError, Global};
@@ -65,6 +68,23 @@ impl RaisedRows {
             spans,
             raises: Vec::new(alloc),
         }
+    }
+
+    /// These cross places, of which none is raised; where there is none, 0. They are moved in. Takes time and memory in proportion
+    /// to the lists.
+    ///
+    /// # Errors
+    ///
+    /// `AllocError` where memory ran out, and only then.
+    pub fn of_crosses(alloc: Global, crosses: Packed<Cross>) -> Result<RaisedRows, AllocError>
+        ensures { IfOk result (λ rows. rows ≡ map places_in crosses) }
+    {
+        let (places, spans) = crosses.into_spans(alloc)?;
+        Ok(RaisedRows {
+            entries: Cells::of_crosses(alloc, places),
+            spans,
+            raises: Vec::new(alloc),
+        })
     }
 
     /// Adds a list that isn't raised. Takes time in proportion to it.

@@ -1,7 +1,7 @@
 -- What cross places tell of the lists without inert entries.
 use Rattle.std.proofs.Common.{◌≡◌, ℕ, suc, ◌+◌, ◌<◌, ◌++◌, ◌∷◌, [], cond, Bool, true, false, List, Some, None, Option, length, take, get_or, is_some, refl, sym, ap, ◌∙◌, append-nil, nat_lt, arith, inl, inr}
 use Rattle.std.specs.List.{filter}
-use Rattle.std.proofs.lemmas.Bool.{eq-eqb, ne_eqb, cases_eq}
+use Rattle.std.proofs.lemmas.Bool.{eq-eqb, ne_eqb, cases_eq, cases_Bool}
 use Rattle.std.proofs.lemmas.List.{get_or_read}
 use Rattle.std.proofs.lemmas.List.Elements.{filter_more}
 use Rattle.sm_lists.specs.Rows.{place_on}
@@ -9,7 +9,6 @@ use Rattle.sm_agents.specs.Written.{AgentData, row, entry, place_of}
 use Rattle.sm_agents.specs.Sound.{AreSoundEntries}
 use Rattle.sm_instance.specs.Crosses.{cross_place, AreCrossPlacesOf}
 use Rattle.sm_instance.proofs.PlaceLemmas.{place_of-entry}
-use Rattle.sm_instance.proofs.LoadLemmas.{test_cases}
 use Rattle.sm_instance.proofs.AcceptLemmas.{cross_some}
 use Rattle.sm_seats.specs.Mutual.{lists_back}
 use Rattle.sm_seats.proofs.FilterLemmas.{place_on-here, place_on-behind, taken, left_out}
@@ -77,7 +76,7 @@ filter-take_place t (x ∷ xs) b e h = elim (cases_eq x b) [
       let far = ne_eqb x b other in
       let place : place_on (x ∷ xs) b ≡ suc (place_on xs b) = omega (arith, place_on-behind x b xs far) in
       let deep = filter-take_place t xs b e (omega arith) in
-      elim (test_cases (t x)) [
+      elim (cases_Bool (t x)) [
         | inl passes ↦
             let kept : place_on (x ∷ filter t xs) b ≡ suc (place_on (filter t xs) b) = omega (arith, place_on-behind x b (filter t xs) far) in
             rw place (rw (taken t x (take (place_on xs b) xs) passes) (rw (taken t x xs passes) (rw kept (ap (λ l. x ∷ l) deep))))

@@ -1,12 +1,11 @@
 -- Where the items of a list stand once some are left out.
 use Rattle.std.proofs.Common.{◌≡◌, ◌≢◌, ℕ, zero, suc, ◌+◌, ◌<◌, ◌≤◌, ◌==◌, Bool, true, false, List, [], ◌∷◌, length, take, get_or, refl, sym, ap, ◌∙◌, arith, inl, inr}
 use Rattle.std.specs.List.{filter, flat_map}
-use Rattle.std.proofs.lemmas.Bool.{eqb-true, cases_lt}
+use Rattle.std.proofs.lemmas.Bool.{eqb-true, cases_lt, cases_Bool}
 use Rattle.std.proofs.lemmas.List.{length-append}
 use Rattle.sm_lists.specs.Rows.{place_on}
 use Rattle.sm_lists.proofs.PlaceLemmas.{get_or-place_on, place_on-lt}
 use Rattle.sm_lists.proofs.Counting.{one_to_one-le}
-use Rattle.sm_instance.proofs.LoadLemmas.{test_cases}
 
 -- the place of the first item, and of one behind it
 pub place_on-here : (x b : ℕ) (xs : List ℕ) → (x == b) ≡ true → place_on (x ∷ xs) b ≡ 0
@@ -25,14 +24,14 @@ left_out t x xs e = rw e refl
 -- who passes the test keeps a place
 pub kept : (t : ℕ → Bool) (xs : List ℕ) (b : ℕ) → t b ≡ true → place_on xs b < length xs → place_on (filter t xs) b < length (filter t xs)
 kept t [] b e h = absurd (omega arith)
-kept t (x ∷ xs) b e h = elim (test_cases (x == b)) [
+kept t (x ∷ xs) b e h = elim (cases_Bool (x == b)) [
   | inl same ↦
       let passes : t x ≡ true = ap t (eqb-true x b same) ∙ e in
       rw (taken t x xs passes) (rw (place_on-here x b (filter t xs) same) (omega arith))
   | inr other ↦
       let below : place_on xs b < length xs = omega (arith, h, place_on-behind x b xs other) in
       let deep = kept t xs b e below in
-      elim (test_cases (t x)) [
+      elim (cases_Bool (t x)) [
         | inl passes ↦ rw (taken t x xs passes) (omega (arith, deep, place_on-behind x b (filter t xs) other))
         | inr fails ↦ rw (left_out t x xs fails) deep
       ]
@@ -41,8 +40,8 @@ kept t (x ∷ xs) b e h = elim (test_cases (x == b)) [
 -- and only who passes it
 pub kept_passes : (t : ℕ → Bool) (xs : List ℕ) (b : ℕ) → place_on (filter t xs) b < length (filter t xs) → (t b ≡ true) × (place_on xs b < length xs)
 kept_passes t [] b h = absurd (omega arith)
-kept_passes t (x ∷ xs) b h = elim (test_cases (t x)) [
-  | inl passes ↦ elim (test_cases (x == b)) [
+kept_passes t (x ∷ xs) b h = elim (cases_Bool (t x)) [
+  | inl passes ↦ elim (cases_Bool (x == b)) [
     | inl same ↦ (ap t (sym (eqb-true x b same)) ∙ passes, omega (arith, place_on-here x b xs same))
     | inr other ↦
         let h' : place_on (x ∷ filter t xs) b < length (x ∷ filter t xs) = rw (taken t x xs passes) at h in
@@ -56,7 +55,7 @@ kept_passes t (x ∷ xs) b h = elim (test_cases (t x)) [
 ]
   where
     place_lt_behind : place_on xs b < length xs → place_on (x ∷ xs) b < length (x ∷ xs)
-    place_lt_behind below = elim (test_cases (x == b)) [
+    place_lt_behind below = elim (cases_Bool (x == b)) [
       | inl same ↦ omega (arith, place_on-here x b xs same)
       | inr other ↦ omega (arith, below, place_on-behind x b xs other)
     ]
@@ -64,15 +63,15 @@ kept_passes t (x ∷ xs) b h = elim (test_cases (t x)) [
 -- those who pass stay in their order
 pub kept_order : (t : ℕ → Bool) (xs : List ℕ) (b c : ℕ) → t b ≡ true → t c ≡ true → place_on xs b < place_on xs c → place_on (filter t xs) b < place_on (filter t xs) c
 kept_order t [] b c e f h = absurd (omega arith)
-kept_order t (x ∷ xs) b c e f h = elim (test_cases (x == c)) [
+kept_order t (x ∷ xs) b c e f h = elim (cases_Bool (x == c)) [
   | inl same ↦ absurd (omega (arith, h, place_on-here x c xs same))
-  | inr far ↦ elim (test_cases (x == b)) [
+  | inr far ↦ elim (cases_Bool (x == b)) [
     | inl same ↦
         let passes : t x ≡ true = ap t (eqb-true x b same) ∙ e in
         rw (taken t x xs passes) (omega (arith, place_on-here x b (filter t xs) same, place_on-behind x c (filter t xs) far))
     | inr other ↦
         let deep = kept_order t xs b c e f (omega (arith, h, place_on-behind x b xs other, place_on-behind x c xs far)) in
-        elim (test_cases (t x)) [
+        elim (cases_Bool (t x)) [
           | inl passes ↦ rw (taken t x xs passes) (omega (arith, deep, place_on-behind x b (filter t xs) other, place_on-behind x c (filter t xs) far))
           | inr fails ↦ rw (left_out t x xs fails) deep
         ]
@@ -117,7 +116,7 @@ pub kept_distinct : (t : ℕ → Bool) (xs : List ℕ) → AreDistinct xs → Ar
 kept_distinct t [] d = d
 kept_distinct t (x ∷ xs) d =
     let deep = kept_distinct t xs (rest_distinct x xs d) in
-    elim (test_cases (t x)) [
+    elim (cases_Bool (t x)) [
       | inl passes ↦ rw (taken t x xs passes) (front_distinct t x xs d deep)
       | inr fails ↦ rw (left_out t x xs fails) deep
     ]
@@ -125,7 +124,7 @@ kept_distinct t (x ∷ xs) d =
 -- no more is kept than there is
 pub length-filter-le : (t : ℕ → Bool) (xs : List ℕ) → length (filter t xs) ≤ length xs
 length-filter-le t [] = omega arith
-length-filter-le t (x ∷ xs) = elim (test_cases (t x)) [
+length-filter-le t (x ∷ xs) = elim (cases_Bool (t x)) [
   | inl passes ↦ rw (taken t x xs passes) (let deep = length-filter-le t xs in omega arith)
   | inr fails ↦ rw (left_out t x xs fails) (let deep = length-filter-le t xs in omega arith)
 ]
@@ -136,7 +135,7 @@ length-filter-take t xs zero = omega arith
 length-filter-take t [] (suc i) = omega arith
 length-filter-take t (x ∷ xs) (suc i) =
     let deep = length-filter-take t xs i in
-    elim (test_cases (t x)) [
+    elim (cases_Bool (t x)) [
       | inl passes ↦ rw (taken t x (take i xs) passes, taken t x xs passes) (omega (arith, deep))
       | inr fails ↦ rw (left_out t x (take i xs) fails, left_out t x xs fails) deep
     ]
@@ -145,7 +144,7 @@ length-filter-take t (x ∷ xs) (suc i) =
 pub whole_before : (t : ℕ → Bool) (xs : List ℕ) (j : ℕ) → length (filter t xs) ≡ length xs → j ≤ length xs → length (filter t (take j xs)) ≡ j
 whole_before t xs zero e le = refl
 whole_before t [] (suc j) e le = omega (arith, le)
-whole_before t (x ∷ xs) (suc j) e le = elim (test_cases (t x)) [
+whole_before t (x ∷ xs) (suc j) e le = elim (cases_Bool (t x)) [
   | inl passes ↦
       let all = ap length (taken t x xs passes) in
       let here = ap length (taken t x (take j xs) passes) in
@@ -159,7 +158,7 @@ whole_before t (x ∷ xs) (suc j) e le = elim (test_cases (t x)) [
 -- and they are the list
 pub whole_filter : (t : ℕ → Bool) (xs : List ℕ) → length (filter t xs) ≡ length xs → filter t xs ≡ xs
 whole_filter t [] e = refl
-whole_filter t (x ∷ xs) e = elim (test_cases (t x)) [
+whole_filter t (x ∷ xs) e = elim (cases_Bool (t x)) [
   | inl passes ↦
       let all = ap length (taken t x xs passes) in
       taken t x xs passes ∙ ap (λ l. x ∷ l) (whole_filter t xs (omega (arith, e, all)))
@@ -171,11 +170,11 @@ whole_filter t (x ∷ xs) e = elim (test_cases (t x)) [
 -- and fewer where one on the list is left out
 pub length-filter-lt : (t : ℕ → Bool) (xs : List ℕ) (b : ℕ) → place_on xs b < length xs → t b ≡ false → length (filter t xs) < length xs
 length-filter-lt t [] b on no_ = absurd (omega arith)
-length-filter-lt t (x ∷ xs) b on no_ = elim (test_cases (x == b)) [
+length-filter-lt t (x ∷ xs) b on no_ = elim (cases_Bool (x == b)) [
   | inl same ↦ rw (left_out t x xs (ap t (eqb-true x b same) ∙ no_)) (let deep = length-filter-le t xs in omega arith)
   | inr other ↦
       let deep = length-filter-lt t xs b (omega (arith, on, place_on-behind x b xs other)) no_ in
-      elim (test_cases (t x)) [
+      elim (cases_Bool (t x)) [
         | inl passes ↦ rw (taken t x xs passes) (omega arith)
         | inr fails ↦ rw (left_out t x xs fails) (omega arith)
       ]
@@ -194,7 +193,7 @@ pieces_up f t [] (suc i) n le = omega arith
 pieces_up f t (x ∷ xs) (suc i) zero le = absurd (omega arith)
 pieces_up f t (x ∷ xs) (suc i) (suc n) le =
     let deep = pieces_up f t xs i n (omega arith) in
-    elim (test_cases (t x)) [
+    elim (cases_Bool (t x)) [
       | inl passes ↦
           rw (taken t x (take i xs) passes, taken t x (take n xs) passes)
           (omega (arith, deep, length-append (f x) (flat_map f (filter t (take i xs))), length-append (f x) (flat_map f (filter t (take n xs)))))

@@ -1,6 +1,6 @@
 -- A stable matching of seats is a stable matching of the instance, once seat numbers are forgotten.
 use Rattle.std.proofs.Common.{◌≡◌, ℕ, ◌+◌, ◌-◌, ◌<◌, ◌≤◌, false, List, Option, length, get_or, refl, sym, ap, ◌∙◌, arith, inl, inr}
-use Rattle.std.proofs.lemmas.Bool.{cases_lt}
+use Rattle.std.proofs.lemmas.Bool.{cases_lt, cases_Bool}
 use Rattle.std.proofs.lemmas.Option.{none-some, same_Some}
 use Rattle.sm_lists.specs.Rows.{place_on}
 use Rattle.sm_lists.proofs.Counting.{one_to_one-le, search_below, Decided-le}
@@ -9,7 +9,7 @@ use Rattle.sm_agents.specs.Written.{Written, row as written_row, entry as writte
 use Rattle.sm_agents.specs.Faults.{HasSoundEntries}
 use Rattle.sm_instance.specs.Matching.{held, standing as written_standing, is_at, IsAssignment, IsMatching as IsWrittenMatching}
 use Rattle.sm_instance.specs.Stable.{Blocks, IsStable as IsWrittenStable}
-use Rattle.sm_instance.proofs.LoadLemmas.{test_cases, place_at, at_place}
+use Rattle.sm_instance.proofs.LoadLemmas.{place_at, at_place}
 use Rattle.sm_instance.proofs.PlaceLemmas.{place_of-entry}
 use Rattle.sm_market.specs.Lists.{row, entry, place_of}
 use Rattle.sm_market.specs.Matching.{Places, standing, IsMatching}
@@ -126,7 +126,7 @@ module _ {w : Written} (h : HasSoundEntries w) {m : Places} (f : IsMatching (sea
 
   -- who isn't at r where it would rather be
   pub not_there : (p r : ℕ) → written_place_of w.proposers p r < written_standing w (written_of (seating_of w) m.proposers) p → is_at w (written_of (seating_of w) m.proposers) p r ≡ false
-  not_there p r gains = elim (test_cases (is_at w (written_of (seating_of w) m.proposers) p r)) [
+  not_there p r gains = elim (cases_Bool (is_at w (written_of (seating_of w) m.proposers) p r)) [
     | inr no_ ↦ no_
     | inl at ↦
         let x = place_at w p r (held (written_of (seating_of w) m.proposers) p) at in

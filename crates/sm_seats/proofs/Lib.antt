@@ -32,4 +32,5 @@ pub mod PlaceLemmas
 pub mod RankLemmas
 pub mod LevelLemmas
 pub mod SecondLemmas
+pub mod GainLemmas
 pub mod ShownNetLemmas

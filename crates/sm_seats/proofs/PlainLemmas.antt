@@ -1,20 +1,24 @@
 -- The lists of the seats where these are the written ones.
 use Rattle.std.proofs.Common.{◌≡◌, ℕ, zero, suc, ◌+◌, ◌<◌, ◌≤◌, ◌++◌, ◌∷◌, [], cond, List, Option, Some, None, length, take, map, get_or, replicate, unwrap_or, refl, sym, ap, ◌∙◌, arith}
 use Rattle.std.specs.List.{flat_map, range_with_len}
-use Rattle.std.proofs.lemmas.List.{ext_get_or, get_or-map, length-map, length-take-le, take_all}
+use Rattle.std.proofs.lemmas.List.{ext_get_or, get_or-map, length-map, length-take-le, take_all, take_more}
 use Rattle.std.proofs.lemmas.List.FromFn.{get_or-map-range_with_len, length-map-range_with_len}
 use Rattle.sm_lists.specs.Rows.{place_on}
+use Rattle.sm_lists.specs.Places.{places_in}
+use Rattle.sm_lists.proofs.RangeLemmas.{range_more}
 use Rattle.sm_agents.specs.Written.{Written, AgentData, row, entry, place_of, lists_of}
 use Rattle.sm_agents.specs.Sound.{IsInstance}
-use Rattle.sm_instance.specs.Crosses.{AreCrossPlacesOf}
+use Rattle.sm_instance.specs.Crosses.{AreCrossPlacesOf, AreCrossPlaces}
 use Rattle.sm_instance.proofs.AcceptLemmas.{lt_true}
 use Rattle.sm_instance.proofs.CrossLemmas.{row-lists_of}
 use Rattle.sm_seats.specs.Mutual.{mutual_row}
 use Rattle.sm_seats.specs.SeatMarket.{seat_count, seats_before, seats_at, named_seats, seat_row}
 use Rattle.sm_seats.specs.Tables.{begin_of, crosses_at, cross_row, seat_crosses, lists_for, crosses_for}
-use Rattle.sm_seats.specs.Plain.{IsPlain, places_in}
-use Rattle.sm_seats.specs.ProposerRows.{seat_rows_of}
+use Rattle.sm_seats.specs.Plain.{IsPlain}
+use Rattle.sm_seats.specs.ProposerRows.{seat_rows_of, cross_rows_of}
+use Rattle.sm_seats.specs.ReviewerRows.{seat_crosses_before}
 use Rattle.sm_seats.proofs.MutualLemmas.{IsMutual, mutual_turned, entry_mutual}
+use Rattle.sm_seats.proofs.RowLemmas.{piece_pushed}
 use Rattle.sm_seats.proofs.SeatLemmas.{seats_before_more}
 use Rattle.sm_seats.proofs.TableLemmas.{begin_of-first_place}
 
@@ -108,6 +112,19 @@ module _ {w : Written} (h : IsInstance w) (plain : IsPlain w) where
       let there : p < n = omega (arith, l, rows) in
       get_or-map-range_with_len (seat_row w) 0 n p p [] there (omega arith) ∙ seat_row_is p there ∙ sym (row-lists_of w.proposers p))
 
+  -- and the cross places along them are those of the instance
+  pub crosses_are_written : (crosses : List (List (Option ℕ))) → AreCrossPlaces w.proposers w.reviewers crosses → map places_in crosses ≡ cross_rows_of w (length w.proposers)
+  crosses_are_written crosses are =
+      let n : ℕ = length w.proposers in
+      let places = length-map crosses places_in in
+      let rows = length-map-range_with_len (cross_row w) 0 n in
+      ext_get_or [] (map places_in crosses) (cross_rows_of w n) (places ∙ are.one_each ∙ sym rows)
+      (λ p l.
+      let there : p < n = omega (arith, l, places, are.one_each) in
+      get_or-map places_in crosses p [] [] (omega (arith, there, are.one_each))
+      ∙ cross_row_is p there (get_or crosses p []) (are.of p there)
+      ∙ sym (get_or-map-range_with_len (cross_row w) 0 n p p [] there (omega arith)))
+
   module _ (r : ℕ) (there : r < length w.reviewers) where
     -- the list of its one seat is the written one
     pub lists_for_is : lists_for w r ≡ row w.reviewers r ∷ []
@@ -149,3 +166,27 @@ module _ {w : Written} (h : IsInstance w) (plain : IsPlain w) where
         ∙ sym (get_or-map begin list i 0 0 on)) in
         ap (λ l. l ∷ []) (places ∙ ap (map begin) (sym (plain.reviewers r there).whole))
         ∙ ap (λ n. map (seat_crosses w r) (range_with_len 0 n)) (sym (plain.reviewers r there).one)
+
+  -- the cross places along the lists of the first seats are those of the instance
+  first_crosses : (crosses : List (List (Option ℕ))) → AreCrossPlaces w.reviewers w.proposers crosses → (n : ℕ) → n ≤ length w.reviewers → take n (map places_in crosses) ≡ seat_crosses_before w n
+  first_crosses crosses are zero few = refl
+  first_crosses crosses are (suc n) few =
+      let there : n < length w.reviewers = omega arith in
+      let places = length-map crosses places_in in
+      let more : suc n ≡ n + 1 = omega arith in
+      let here : get_or (map places_in crosses) n [] ∷ [] ≡ crosses_for w n =
+      ap (λ l. l ∷ []) (get_or-map places_in crosses n [] [] (omega (arith, there, are.one_each))) ∙ crosses_for_is n there (get_or crosses n []) (are.of n there) in
+      ap (λ k. take k (map places_in crosses)) more
+      ∙ take_more (map places_in crosses) n [] (omega (arith, there, places, are.one_each))
+      ∙ ap (λ l. l ++ get_or (map places_in crosses) n [] ∷ []) (first_crosses crosses are n (omega arith))
+      ∙ ap (λ l. seat_crosses_before w n ++ l) here
+      ∙ piece_pushed (crosses_for w) (range_with_len 0 n) n (seat_crosses_before w n) (seat_crosses_before w n ++ crosses_for w n) (crosses_for w n) refl refl refl
+      ∙ ap (flat_map (crosses_for w)) (sym (range_more 0 n n (omega arith)))
+      ∙ ap (seat_crosses_before w) (sym more)
+
+  -- and so along the lists of all seats
+  pub seat_crosses_are_written : (crosses : List (List (Option ℕ))) → AreCrossPlaces w.reviewers w.proposers crosses → map places_in crosses ≡ seat_crosses_before w (length w.reviewers)
+  seat_crosses_are_written crosses are =
+      let places = length-map crosses places_in in
+      sym (take_all (length w.reviewers) (map places_in crosses) (omega (arith, places, are.one_each)))
+      ∙ first_crosses crosses are (length w.reviewers) (omega arith)

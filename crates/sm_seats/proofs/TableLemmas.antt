@@ -1,7 +1,7 @@
 -- What stands in the tables that are made on the way to the market of seats.
 use Rattle.std.proofs.Common.{◌≡◌, ℕ, ◌+◌, ◌-◌, ◌*◌, ◌<◌, ◌≤◌, ◌++◌, ◌∷◌, [], true, false, cond, nat_eq, List, length, take, drop, map, get_or, min, Vec, sym, ap, ◌∙◌, arith, inl, inr}
 use Rattle.std.specs.List.{filter, flat_map, range_with_len}
-use Rattle.std.proofs.lemmas.Bool.{cases_lt, eqb-true}
+use Rattle.std.proofs.lemmas.Bool.{cases_lt, eqb-true, cases_Bool}
 use Rattle.std.proofs.lemmas.List.{map-append, length_push, length-take, length-take-le, get_or-map, length-map, get_or_past, length-append, append-nil}
 use Rattle.std.proofs.lemmas.List.Concat.{flat_map-append}
 use Rattle.std.proofs.lemmas.List.FromFn.{get_or-map-range_with_len, length-map-range_with_len, length-range_with_len, map-range_with_len_more}
@@ -20,7 +20,6 @@ use Rattle.sm_seats.proofs.MutualLemmas.{IsMutual, mutual_turned, mutual_on_row}
 use Rattle.sm_seats.proofs.SeatLemmas.{seat_count-le-capacity, seats_before_more, seats_end}
 use Rattle.sm_seats.proofs.PieceLemmas.{numbers_between}
 use Rattle.sm_seats.proofs.SeatPlaces.{first_place}
-use Rattle.sm_instance.proofs.LoadLemmas.{test_cases}
 use Rattle.sm_seats.proofs.FilterLemmas.{whole_before, pieces_up}
 use Rattle.sm_seats.proofs.CrossLemmas.{back_more, back_same, filter-take_place}
 
@@ -113,7 +112,7 @@ inert_row_at w r there = get_or-map-range_with_len (inert_places_at w) 0 (length
 module _ (w : Written) (r j : ℕ) (on : j < length (row w.reviewers r)) where
   -- where there is a table of its list, the place is read there
   pub mutual_place_read : j < length (inert_places_at w r) → get_or (inert_places_at w r) j 0 ≡ mutual_before w r j
-  mutual_place_read there = elim (test_cases (nat_eq (acceptable_at w r) (length (row w.reviewers r)))) [
+  mutual_place_read there = elim (cases_Bool (nat_eq (acceptable_at w r) (length (row w.reviewers r)))) [
     | inl whole ↦
         let none_ : length (inert_places_at w r) ≡ 0 = ap (λ b. length (cond b [] (mutual_places_at w r))) whole in
         omega (arith, none_, there)
@@ -124,7 +123,7 @@ module _ (w : Written) (r j : ℕ) (on : j < length (row w.reviewers r)) where
 
   -- without a table of its list the place is that of the written list
   pub mutual_place_same : length (inert_places_at w r) ≤ j → j ≡ mutual_before w r j
-  mutual_place_same past = elim (test_cases (nat_eq (acceptable_at w r) (length (row w.reviewers r)))) [
+  mutual_place_same past = elim (cases_Bool (nat_eq (acceptable_at w r) (length (row w.reviewers r)))) [
     | inl whole ↦ sym (whole_before (lists_back w.proposers r) (row w.reviewers r) j (eqb-true _ _ whole) (omega (arith, on)))
     | inr other ↦
         let long : length (inert_places_at w r) ≡ length (row w.reviewers r) = ap (λ b. length (cond b [] (mutual_places_at w r))) other ∙ length-map-range_with_len (mutual_before w r) 0 (length (row w.reviewers r)) in

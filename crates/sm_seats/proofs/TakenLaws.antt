@@ -1,7 +1,7 @@
 -- A matching of the instance takes seats, and is a stable matching of the seats where it is stable.
 use Rattle.std.proofs.Common.{◌≡◌, ℕ, ◌+◌, ◌<◌, ◌⊎◌, true, false, List, Option, Some, None, length, get_or, unwrap_or, refl, sym, ap, ◌∙◌, arith, inl, inr, ext_get_or}
 use Rattle.std.specs.Option.{option_map}
-use Rattle.std.proofs.lemmas.Bool.{cases_lt, false≢true}
+use Rattle.std.proofs.lemmas.Bool.{cases_lt, false≢true, cases_Bool}
 use Rattle.std.proofs.lemmas.List.{get_or_past}
 use Rattle.std.proofs.lemmas.List.FromFn.{get_or-map-range_with_len, length-map-range_with_len}
 use Rattle.std.proofs.lemmas.Option.{none-some, same_Some}
@@ -11,7 +11,7 @@ use Rattle.sm_agents.specs.Written.{Written, row as written_row, entry as writte
 use Rattle.sm_agents.specs.Faults.{HasSoundEntries}
 use Rattle.sm_instance.specs.Matching.{held, standing as written_standing, is_at, load, IsMatching as IsWrittenMatching}
 use Rattle.sm_instance.specs.Stable.{HasWorse, IsStable as IsWrittenStable}
-use Rattle.sm_instance.proofs.LoadLemmas.{test_cases, place_at, at_place}
+use Rattle.sm_instance.proofs.LoadLemmas.{place_at, at_place}
 use Rattle.sm_instance.proofs.PlaceLemmas.{place_of-entry}
 use Rattle.sm_market.specs.Lists.{row, entry, place_of}
 use Rattle.sm_market.specs.Matching.{standing}
@@ -291,7 +291,7 @@ module _ {w : Written} (h : HasSoundEntries w) (places : List (Option ℕ)) (s :
   unblocked p seat on better gains =
       let it = seat_on h p (place_of (seat_market w).proposers p seat) on in
       let of : IsSeatOf w seat it.reviewer it.number = record { is = sym (entry-place_of (seat_market w).proposers p seat on) ∙ it.at.names; below = it.at.below } in
-      elim (test_cases (is_at w places p it.reviewer)) [
+      elim (cases_Bool (is_at w places p it.reviewer)) [
         | inl yes_ ↦ blocked_inside p seat it.reviewer it.number of it.at.is better gains yes_
         | inr no_ ↦ s.unblocked p it.reviewer (record {
           acceptable = mutual_acceptable {w = w} it.at.mutual_;

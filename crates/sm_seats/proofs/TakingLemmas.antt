@@ -1,7 +1,7 @@
 -- Seating the proposers of a matching, one reviewer after another and each in its order.
 use Rattle.std.proofs.Common.{◌≡◌, ◌≢◌, ℕ, zero, suc, ◌+◌, ◌<◌, ◌≤◌, ◌++◌, ◌==◌, Bool, true, false, List, [], ◌∷◌, Option, Some, None, length, get_or, set, take, replicate, refl, sym, ap, ◌∙◌, subst, arith, inl, inr, ext_get_or}
 use Rattle.std.specs.List.{filter}
-use Rattle.std.proofs.lemmas.Bool.{cases_lt, cases_eq, false≢true, eq-eqb}
+use Rattle.std.proofs.lemmas.Bool.{cases_lt, cases_eq, false≢true, eq-eqb, cases_Bool}
 use Rattle.std.proofs.lemmas.List.{get_or_past, get_or-set_same, get_or-set_other, length-set, length-replicate, get_or-replicate}
 use Rattle.std.proofs.lemmas.List.Elements.{filter_more}
 use Rattle.sm_lists.specs.Rows.{place_on, row as list_at}
@@ -9,7 +9,7 @@ use Rattle.sm_lists.proofs.PlaceLemmas.{get_or-place_on}
 use Rattle.sm_agents.specs.Written.{Written, row as written_row, entry as written_entry, lists_of}
 use Rattle.sm_agents.specs.Faults.{HasSoundEntries}
 use Rattle.sm_instance.specs.Matching.{held, is_at, leads_to, IsAssignment, IsMatching}
-use Rattle.sm_instance.proofs.LoadLemmas.{at_place, test_cases}
+use Rattle.sm_instance.proofs.LoadLemmas.{at_place}
 use Rattle.sm_market.specs.Lists.{Lists, row, place_of}
 use Rattle.sm_seats.specs.Mutual.{mutual_row}
 use Rattle.sm_seats.specs.SeatMarket.{seat_count, seats_before, seats_of, seat_market}
@@ -51,7 +51,7 @@ place_kept t (x ∷ xs) (suc j) d on yes_ =
     let deep = place_kept t xs j rest (omega arith) yes_ in
     let apart : x ≢ y = d.distinct 0 (suc j) (omega arith) (omega arith) in
     let other : (x == y) ≡ false = Rattle.std.proofs.Common.ne_eqb x y apart in
-    elim (test_cases (t x)) [
+    elim (cases_Bool (t x)) [
       | inl taken ↦
           let a : filter t (x ∷ xs) ≡ x ∷ filter t xs = rw taken refl in
           let b : filter t (x ∷ take j xs) ≡ x ∷ filter t (take j xs) = rw taken refl in

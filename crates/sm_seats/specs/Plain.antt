@@ -1,5 +1,5 @@
 -- Instances whose market of seats has the lists that are written.
-use Rattle.std.specs.Prelude.{◌≡◌, ℕ, ◌<◌, List, map, length, Option, unwrap_or}
+use Rattle.std.specs.Prelude.{◌≡◌, ℕ, ◌<◌, length}
 use Rattle.sm_agents.specs.Written.{Written, row}
 use Rattle.sm_seats.specs.Mutual.{mutual_row}
 use Rattle.sm_seats.specs.SeatMarket.{seat_count}
@@ -13,7 +13,3 @@ pub record HasOneSeat (w : Written) (r : ℕ) : Type 0 where
 pub record IsPlain (w : Written) : Type 0 where
   pub reviewers : (r : ℕ) → r < length w.reviewers → HasOneSeat w r
   pub proposers : (p : ℕ) → p < length w.proposers → mutual_row w.proposers w.reviewers p ≡ row w.proposers p
-
--- cross places of a list without inert entries
-abbrev pub places_in : List (Option ℕ) → List ℕ
-places_in crosses = map (λ (o : Option ℕ). unwrap_or o 0) crosses

@@ -8,7 +8,6 @@ ghost use Rattle.sm_instance.specs.Crosses.{AreCrossPlacesOf, AreCrossesOf};
 
 use sm_instance::{Cross, Crosses, Instance};
 use std::marker::Model;
-use std::snapshot::Snapshot;
 
 /// An instance beside the cross places of its lists.
 #[derive(Drop)]
@@ -38,11 +37,11 @@ impl<'a> CrossedInstance<'a> {
         CrossedInstance { instance, crosses }
     }
 
-    /// The instance, for contracts alone.
-    pub(crate) fn snapshot(&self) -> Snapshot<Instance>
-        ensures { result.value ≡ self.now }
+    /// The instance.
+    pub(crate) fn instance(&self) -> &Instance
+        ensures { result.now ≡ self.now }
     {
-        Snapshot::of(self.instance)
+        self.instance
     }
 
     /// How many proposers there are.

@@ -1,7 +1,7 @@
 //! Instances in which each reviewer has one seat and no entry is inert, as most marriages: the seats have the written lists,
 //! and the cross places of the instance.
 
-ghost use Rattle.std.specs.Prelude.{◌≡◌, ℕ, ◌<◌, ◌≤◌, ◌↔◌, length, IfOk, OnOk, IsTrue};
+ghost use Rattle.std.specs.Prelude.{◌≡◌, ℕ, ◌<◌, ◌≤◌, ◌↔◌, length, IfOk, IsTrue};
 ghost use Rattle.sm_text.specs.Limits.{most_agents};
 ghost use Rattle.sm_agents.specs.Sound.{IsInstance};
 ghost use Rattle.sm_agents.specs.Written.{row, lists_of};
@@ -10,14 +10,16 @@ ghost use Rattle.sm_seats.specs.SeatMarket.{seats_of};
 ghost use Rattle.sm_seats.specs.Counted.{acceptable_of, first_seats_of};
 ghost use Rattle.sm_seats.specs.ProposerRows.{seat_rows_of, cross_rows_of};
 ghost use Rattle.sm_seats.specs.ReviewerRows.{seat_lists_before, seat_crosses_before};
-ghost use Rattle.sm_seats.specs.Plain.{HasOneSeat, IsPlain, places_in};
+ghost use Rattle.sm_instance.specs.Crosses.{AreCrossPlaces};
+ghost use Rattle.sm_seats.specs.Plain.{HasOneSeat, IsPlain};
 
 use crate::crossed_instance::CrossedInstance;
 use crate::entry_counts::EntryCounts;
 use crate::proposer_rows::ProposerRows;
 use crate::reviewer_rows::ReviewerRows;
-use sm_instance::Cross;
-use sm_lists::{RaisedRows, Rows};
+use sm_agents::count_entries;
+use sm_instance::Instance;
+use sm_lists::{Cross, Packed, RaisedRows, Rows};
 use std::alloc::{AllocError, Global};
 
 /// Is the instance such a one? Takes time in proportion to the entries.
@@ -89,13 +91,14 @@ fn acceptable_count(instance: &CrossedInstance<'_>, p: u32) -> u32
     count
 }
 
-/// The lists of all proposers, with room for so many entries.
+/// The lists of all proposers, with their cross places, which are moved in.
 pub(crate) fn plain_proposers(
     alloc: Global,
-    instance: &CrossedInstance<'_>,
-    room: usize,
+    instance: &Instance,
+    crosses: Packed<Cross>,
 ) -> Result<ProposerRows, AllocError>
-    requires { IsPlain instance.now }
+    requires plain { IsPlain instance.now }
+    requires crosses { AreCrossPlaces instance.now.proposers instance.now.reviewers crosses }
     ensures instance { IsInstance instance.now }
     ensures lists { IfOk result
         (λ rows. rows.lists ≡ seat_rows_of instance.now (length instance.now.proposers)) }
@@ -104,24 +107,23 @@ pub(crate) fn plain_proposers(
         (λ rows. rows.crosses ≡ cross_rows_of instance.now (length instance.now.proposers)) }
 {
     let proposers = instance.proposer_count();
-    let mut lists = Rows::with_capacity(alloc, proposers as usize, room)?;
-    let mut crosses = RaisedRows::with_capacity(alloc, proposers as usize, room)?;
-    let mut places = Vec::new(alloc);
+    let entries = count_entries(instance.proposers());
+    let mut lists = Rows::with_capacity(alloc, proposers as usize, entries)?;
     for p in 0..proposers {
         lists.push(instance.proposer_list(p))?;
-        write_places(instance.proposer_crosses(p), &mut places)?;
-        crosses.push(&places)?;
     }
+    let crosses = RaisedRows::of_crosses(alloc, crosses)?;
     Ok(ProposerRows { lists, crosses })
 }
 
-/// The lists of all seats, with room for so many entries.
+/// The lists of all seats, with their cross places, which are moved in.
 pub(crate) fn plain_seats(
     alloc: Global,
-    instance: &CrossedInstance<'_>,
-    room: usize,
+    instance: &Instance,
+    crosses: Packed<Cross>,
 ) -> Result<ReviewerRows, AllocError>
-    requires { IsPlain instance.now }
+    requires plain { IsPlain instance.now }
+    requires crosses { AreCrossPlaces instance.now.reviewers instance.now.proposers crosses }
     ensures seats { IfOk result (λ rows. rows.seats.items ≡ seats_of instance.now) }
     ensures lists { IfOk result
         (λ rows. rows.lists ≡ seat_lists_before instance.now (length instance.now.reviewers)) }
@@ -129,38 +131,17 @@ pub(crate) fn plain_seats(
         (λ rows. rows.crosses ≡ seat_crosses_before instance.now (length instance.now.reviewers)) }
 {
     let reviewers = instance.reviewer_count();
+    let entries = count_entries(instance.reviewers());
     let mut seats = Vec::with_capacity(alloc, reviewers as usize)?;
-    let mut lists = Rows::with_capacity(alloc, reviewers as usize, room)?;
-    let mut crosses = RaisedRows::with_capacity(alloc, reviewers as usize, room)?;
-    let mut places = Vec::new(alloc);
+    let mut lists = Rows::with_capacity(alloc, reviewers as usize, entries)?;
     for r in 0..reviewers {
         seats.push((r, 1))?;
         lists.push(instance.reviewer_list(r))?;
-        write_places(instance.reviewer_crosses(r), &mut places)?;
-        crosses.push(&places)?;
     }
+    let crosses = RaisedRows::of_crosses(alloc, crosses)?;
     Ok(ReviewerRows {
         seats,
         lists,
         crosses,
     })
-}
-
-/// Writes the cross places of a list without inert entries.
-fn write_places(crosses: &[Cross], places: &mut Vec<u32>) -> Result<(), AllocError>
-    ensures { OnOk result (places.new.items ≡ places_in crosses.now) }
-{
-    places.resize(crosses.len(), 0)?;
-    fill_places(crosses, places);
-    Ok(())
-}
-
-/// Writes these cross places, one after another.
-fn fill_places(crosses: &[Cross], places: &mut [u32])
-    requires { length places.old ≡ length crosses.now }
-    ensures { places.new ≡ places_in crosses.now }
-{
-    for at in 0..crosses.len() {
-        places[at] = crosses[at].place().unwrap_or(0);
-    }
 }

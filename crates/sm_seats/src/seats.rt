@@ -1,10 +1,11 @@
 //! Seats, and matchings of them.
 
-ghost use Rattle.std.specs.Prelude.{◌≡◌, ◌+◌, ◌<◌, length, slice_index_or, unwrap_or, IfOk, IfErr, OnOk};
+ghost use Rattle.std.specs.Prelude.{◌≡◌, ◌+◌, ◌<◌, length, slice_index_or, unwrap_or, IfOk, IfErr, OnOk, MatchOption};
 ghost use Rattle.sm_agents.specs.Written.{Written, lists_of};
 ghost use Rattle.sm_agents.specs.Sound.{IsInstance};
 ghost use Rattle.std.specs.Option.{option_map};
 ghost use Rattle.sm_instance.specs.Matching.{IsMatching};
+ghost use Rattle.sm_instance.specs.Crosses.{AreCrossesOf, crosses_lent};
 ghost use Rattle.sm_market.specs.Lists.{row};
 ghost use Rattle.sm_market.specs.Matching.{held};
 ghost use Rattle.sm_market.specs.Pairing.{IsPairingOf};
@@ -30,8 +31,8 @@ use crate::proposer_rows::{ProposerRows, proposer_rows};
 use crate::reviewer_rows::{ReviewerRows, reviewer_rows};
 use crate::taking::taken_places;
 use crate::written_lists::WrittenLists;
-use sm_instance::{Assignment, Instance};
-use sm_lists::Rows;
+use sm_instance::{Assignment, Instance, LentCrosses};
+use sm_lists::{CrossPlaces, Rows};
 use sm_market::{Market, Pairing};
 use std::alloc::{AllocError, Global};
 use std::marker::Model;
@@ -106,9 +107,17 @@ impl Seats {
     {
         let crosses = instance.crosses(alloc)?;
         let crossed = CrossedInstance::of(instance, crosses.get());
-        let seats = seats_by(alloc, &crossed, &counts.firsts);
-        drop(crosses);
-        seats
+        match seats_unless_plain(alloc, &crossed, &counts.firsts) {
+            Ok(None) => plain_market_seats(alloc, instance, crosses),
+            Ok(Some(seats)) => {
+                drop(crosses);
+                Ok(seats)
+            }
+            Err(fault) => {
+                drop(crosses);
+                Err(fault)
+            }
+        }
     }
 
     /// The market of the seats: its proposers are those of the instance, and its reviewers the seats, both from 0. Its lists
@@ -240,40 +249,46 @@ impl Seats {
     }
 }
 
-/// The seats of an instance, by its first seats.
-fn seats_by(
+/// The seats of an instance, by its first seats; `None` where each reviewer has one seat and no entry is inert.
+fn seats_unless_plain(
     alloc: Global,
     instance: &CrossedInstance<'_>,
     firsts: &[u32],
-) -> Result<Seats, AllocError>
+) -> Result<Option<Seats>, AllocError>
     requires firsts { firsts.now ≡ first_seats_of instance.now }
     requires few { AreFewSeats instance.now }
-    ensures seats { IfOk result (λ seats. seats ≡ seating_of instance.now) }
-    ensures seating { IfOk result (λ seats. IsSeating instance.now seats) }
+    ensures seats { IfOk result (λ found. MatchOption found (IsPlain instance.now)
+        (λ seats. seats ≡ seating_of instance.now)) }
+    ensures seating { IfOk result (λ found. MatchOption found (Unit {0})
+        (λ seats. IsSeating instance.now seats)) }
 {
     let counts = entry_counts(alloc, instance, firsts)?;
-    let seats = if is_plain(instance, &counts) {
-        plain_market_seats(alloc, instance, counts.entries as usize)
-    } else {
-        seats_of_counts(alloc, instance, &counts)
-    };
+    if is_plain(instance, &counts) {
+        drop(counts);
+        return Ok(None);
+    }
+    let seats = seats_of_counts(alloc, instance, &counts);
     drop(counts);
-    seats
+    Ok(Some(seats?))
 }
 
-/// The seats of an instance in which each reviewer has one seat and no entry is inert, with room for so many entries.
+/// The seats of an instance in which each reviewer has one seat and no entry is inert. The cross places are those of the
+/// instance.
 fn plain_market_seats(
     alloc: Global,
-    instance: &CrossedInstance<'_>,
-    room: usize,
+    instance: &Instance,
+    crosses: LentCrosses<'_>,
 ) -> Result<Seats, AllocError>
     requires plain { IsPlain instance.now }
     requires few { AreFewSeats instance.now }
+    requires crosses { AreCrossesOf instance.now.proposers instance.now.reviewers
+        (crosses_lent crosses) }
     ensures seats { IfOk result (λ seats. seats ≡ seating_of instance.now) }
     ensures seating { IfOk result (λ seats. IsSeating instance.now seats) }
 {
-    let proposers = plain_proposers(alloc, instance, room)?;
-    let reviewers = plain_seats(alloc, instance, room)?;
+    let CrossPlaces { rows, others } = crosses.into_sides(alloc)?;
+    let proposers = plain_proposers(alloc, instance, rows)?;
+    let reviewers = plain_seats(alloc, instance, others)?;
     seats_held(alloc, instance, None, proposers, reviewers)
 }
 
@@ -293,13 +308,19 @@ fn seats_of_counts(
     let proposers = proposer_rows(alloc, instance, counts, &places, &begins)?;
     let reviewers = reviewer_rows(alloc, instance, counts, &begins)?;
     let lists = written_lists(alloc, instance)?;
-    seats_held(alloc, instance, Some(lists), proposers, reviewers)
+    seats_held(
+        alloc,
+        instance.instance(),
+        Some(lists),
+        proposers,
+        reviewers,
+    )
 }
 
 /// The seats with these lists, beside the lists that the proposers wrote where these differ from those of the market.
 fn seats_held(
     alloc: Global,
-    instance: &CrossedInstance<'_>,
+    instance: &Instance,
     beside: Option<Rows>,
     proposers: ProposerRows,
     reviewers: ReviewerRows,
@@ -328,7 +349,7 @@ fn seats_held(
     let market = Rc::new(alloc, market)?;
     let lists = WrittenLists::of(beside, market.clone()?);
     Ok(Seats {
-        written: instance.snapshot(),
+        written: Snapshot::of(instance),
         lists,
         market,
         seats: reviewers.seats,

@@ -9,7 +9,7 @@ ghost use Rattle.sm_serve.specs.declared.stop.Stop.{Stop};
 ghost use Rattle.sm_top.specs.Accepting.{judged, accepted, IsUnaccepted};
 ghost use Rattle.sm_words.specs.Jobs.{job_of};
 
-use sm_instance::{Input, Side};
+use sm_instance::{Input, Measure};
 use sm_reader::{Read, TextFault, read_instance};
 use sm_serve::{Stop, text_behind};
 use sm_text::RefusalKind;
@@ -49,20 +49,26 @@ fn kept_for(job: &Job, bytes: &[u8], mut read: Read) -> Result<Read, Stop>
     }
 }
 
-/// Lets an input keep what a job looks up again and again: cross places, without which `export` and `solve` for the proposers
-/// do, and names where there is text behind `end`.
+/// Lets an input keep what a job looks up again and again: its cross places, and names where there is text behind `end`.
 fn keep_for(job: &Job, bytes: &[u8], input: &mut Input) -> Result<(), AllocError>
     ensures { input.new ≡ input.old }
 {
-    match job {
-        Job::Export | Job::Solve(None) | Job::Solve(Some(Side::Proposers)) => return Ok(()),
-        _ => (),
+    if looks_at_crosses(job) {
+        input.keep_crosses()?;
     }
-    input.keep_crosses()?;
     if takes_text(job) {
         input.keep_names()?;
     }
     Ok(())
+}
+
+/// Whether a job looks at cross places of the instance itself, beside those of the market of its seats.
+fn looks_at_crosses(job: &Job) -> bool {
+    match job {
+        Job::Regret | Job::Weight(Measure::Ranks) | Job::Survey(_) => true,
+        Job::Meet | Job::Join | Job::Route | Job::Check => true,
+        _ => false,
+    }
 }
 
 /// The line of text behind `end`, where a job takes none and there is some.

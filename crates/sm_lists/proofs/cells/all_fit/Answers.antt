@@ -1,6 +1,6 @@
 use Rattle.std.proofs.Common.{◌≡◌, ℕ, ◌≤◌, List, get_or, bit_or, subst, arith, ⊎_elim}
 use Rattle.std.proofs.lemmas.Bool.{cases_lt}
-use Rattle.std.proofs.lemmas.Nat.{or_of_16, le_or_l, le_or_r}
+use Rattle.std.proofs.lemmas.Nat.{or_lt, le_or_l, le_or_r}
 use Rattle.sm_lists.proofs.cells.all_fit.Goals as goal
 
 pub loop-number-preserved : goal.loop-number-preserved
@@ -15,5 +15,5 @@ loop-number-preserved c =
           (λ before. omega (arith, c.loop-number.invariant.greatest i before, le_or_l bits next))
           (λ after. subst (λ k. get_or list k 0 ≤ bit_or bits next) (let e : at ≡ i = omega arith in e) (le_or_r bits next))
           (cases_lt i at);
-      fit = λ all. or_of_16 bits next (c.loop-number.invariant.fit (λ i l. all i (omega (arith, l)))) (all at (omega arith));
+      fit = λ all. or_lt 15 bits next (c.loop-number.invariant.fit (λ i l. all i (omega (arith, l)))) (all at (omega arith));
     }

@@ -4,5 +4,5 @@ use Rattle.sm_lists.proofs.cells.all_fit.Given as goal
 abbrev pub invariant-loop-number : goal.invariant-loop-number
 invariant-loop-number l = record {
   greatest : (i : ℕ) → i < l.number-index → get_or l.list i 0 ≤ l.bits;
-  fit : ((i : ℕ) → i < l.number-index → get_or l.list i 0 < 2 ^ 16) → l.bits < 2 ^ 16;
+  fit : ((i : ℕ) → i < l.number-index → get_or l.list i 0 < 2 ^ 15) → l.bits < 2 ^ 15;
 }

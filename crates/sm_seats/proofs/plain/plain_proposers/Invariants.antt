@@ -1,9 +1,6 @@
 use Rattle.std.proofs.Common.{◌≡◌}
-use Rattle.sm_seats.specs.ProposerRows.{seat_rows_of, cross_rows_of}
+use Rattle.sm_seats.specs.ProposerRows.{seat_rows_of}
 use Rattle.sm_seats.proofs.plain.plain_proposers.Given as goal
 
 abbrev pub invariant-loop-p : goal.invariant-loop-p
-invariant-loop-p l = record {
-  lists : l.lists ≡ seat_rows_of l.instance l.p;
-  crosses : l.crosses ≡ cross_rows_of l.instance l.p;
-}
+invariant-loop-p l = l.lists ≡ seat_rows_of l.instance l.p

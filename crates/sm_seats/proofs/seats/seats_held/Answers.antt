@@ -35,18 +35,18 @@ invariant_of-result c =
     let w = c.args.instance.now in
     let market : c.in_ok-market.market.value ≡ seat_market w = c.in_ok-market.ensures.ok ∙ c.held-market.ensures.lists ∙ market_made w c.args.proposers.lists c.args.reviewers.lists c.requires.proposers c.requires.reviewers in
     let lists : c.of-lists.result ≡ lists_of w.proposers = c.of-lists.ensures ∙ ap (λ (m : Lists). unwrap_or c.args.beside m.proposers) (c.in_ok-clone.ensures.cases ∙ c.in_ok-market.ensures.ok ∙ c.held-market.ensures.lists) ∙ c.requires.written in
-    rw (seating_made w c.snapshot.result.value c.of-lists.result c.in_ok-market.market.value c.args.reviewers.seats.items c.snapshot.ensures lists market c.requires.seats) (seating_kept c.requires.instance)
+    rw (seating_made w c.of.result.value c.of-lists.result c.in_ok-market.market.value c.args.reviewers.seats.items c.of.ensures lists market c.requires.seats) (seating_kept c.requires.instance)
 
 pub returns-clause-seats : goal.returns-clause-seats
 returns-clause-seats c =
     let w = c.args.instance.now in
     let market : c.in_ok-market.market.value ≡ seat_market w = c.in_ok-market.ensures.ok ∙ c.held-market.ensures.lists ∙ market_made w c.args.proposers.lists c.args.reviewers.lists c.requires.proposers c.requires.reviewers in
     let lists : c.of-lists.result ≡ lists_of w.proposers = c.of-lists.ensures ∙ ap (λ (m : Lists). unwrap_or c.args.beside m.proposers) (c.in_ok-clone.ensures.cases ∙ c.in_ok-market.ensures.ok ∙ c.held-market.ensures.lists) ∙ c.requires.written in
-    seating_made w c.snapshot.result.value c.of-lists.result c.in_ok-market.market.value c.args.reviewers.seats.items c.snapshot.ensures lists market c.requires.seats
+    seating_made w c.of.result.value c.of-lists.result c.in_ok-market.market.value c.args.reviewers.seats.items c.of.ensures lists market c.requires.seats
 
 pub returns-clause-seating : goal.returns-clause-seating
 returns-clause-seating c =
     let w = c.args.instance.now in
     let market : c.in_ok-market.market.value ≡ seat_market w = c.in_ok-market.ensures.ok ∙ c.held-market.ensures.lists ∙ market_made w c.args.proposers.lists c.args.reviewers.lists c.requires.proposers c.requires.reviewers in
     let lists : c.of-lists.result ≡ lists_of w.proposers = c.of-lists.ensures ∙ ap (λ (m : Lists). unwrap_or c.args.beside m.proposers) (c.in_ok-clone.ensures.cases ∙ c.in_ok-market.ensures.ok ∙ c.held-market.ensures.lists) ∙ c.requires.written in
-    rw (seating_made w c.snapshot.result.value c.of-lists.result c.in_ok-market.market.value c.args.reviewers.seats.items c.snapshot.ensures lists market c.requires.seats) (is_seating (sound_entries c.requires.instance))
+    rw (seating_made w c.of.result.value c.of-lists.result c.in_ok-market.market.value c.args.reviewers.seats.items c.of.ensures lists market c.requires.seats) (is_seating (sound_entries c.requires.instance))
