@@ -1,7 +1,7 @@
 -- The full order of some numbers that come first.
 use Rattle.std.proofs.Common.{◌≡◌, ◌≢◌, ℕ, zero, suc, ◌+◌, ◌-◌, ◌<◌, ◌≤◌, ◌||◌, eqb, Bool, true, false, not, cond, List, [], ◌∷◌, ◌++◌, length, filter, get_or, take, refl, sym, ap, ◌∙◌, subst, inl, inr, arith, All, AllPairs}
 use Rattle.std.specs.List.{list_any, range_with_len}
-use Rattle.std.proofs.lemmas.Bool.{false≢true, cases_lt, eqb-true}
+use Rattle.std.proofs.lemmas.Bool.{false≢true, cases_lt, eqb-true, not-true}
 use Rattle.std.proofs.lemmas.Bool.Decides.{nat_tests}
 use Rattle.std.proofs.lemmas.List.{length-append, map-id, take_more, take_all, get_or-append-add}
 use Rattle.std.proofs.lemmas.List.Elements.{All-filter, filter_passes}
@@ -71,10 +71,6 @@ among (y ∷ ys) x h = by_test (eqb y x) refl h (among ys x)
     by_test true e k behind = (0, omega arith, eqb-true y x e)
     by_test false e k behind = let w = behind k in (suc w.0, omega (arith, w.1), w.2)
 
-not_false : (t : Bool) → not t ≡ true → t ≡ false
-not_false true h = absurd (false≢true h)
-not_false false h = refl
-
 module _ (count : ℕ) (first : List ℕ) where
   abbrev others : List ℕ
   others = filter (λ (n : ℕ). not (list_any (λ (m : ℕ). eqb m n) first)) (range_with_len 0 count)
@@ -97,7 +93,7 @@ module _ (count : ℕ) (first : List ℕ) where
   apart : (i k : ℕ) → i < length first → k < length others → get_or first i 0 ≢ get_or others k 0
   apart i k inside below same =
       let x = get_or others k 0 in
-      let none : list_any (λ (m : ℕ). eqb m x) first ≡ false = not_false _ (filter_passes (λ (n : ℕ). not (list_any (λ (m : ℕ). eqb m n) first)) (range_with_len 0 count) k 0 below) in
+      let none : list_any (λ (m : ℕ). eqb m x) first ≡ false = not-true _ (filter_passes (λ (n : ℕ). not (list_any (λ (m : ℕ). eqb m n) first)) (range_with_len 0 count) k 0 below) in
       false≢true (sym none ∙ list_any_at (λ (m : ℕ). eqb m x) first i 0 inside (let e : eqb (get_or first i 0) x ≡ true = grind (arith, nat_tests) in e))
 
   at_first : (j : ℕ) → j < length first → get_or (first ++ others) j 0 ≡ get_or first j 0

@@ -1,6 +1,6 @@
 -- Going along the parties of a partition, one after another.
 use Rattle.std.proofs.Common.{◌≡◌, ◌≢◌, ℕ, zero, suc, ◌+◌, ◌-◌, ◌<◌, ◌≤◌, ◌⊎◌, inl, inr, arith, refl, sym, ap, ◌∙◌, Bool, true, false, List, [], ◌∷◌, ◌++◌, length, get_or, set, replicate}
-use Rattle.std.proofs.lemmas.Bool.{false≢true, cases_lt}
+use Rattle.std.proofs.lemmas.Bool.{false≢true, cases_lt, false_from_ne_true}
 use Rattle.std.proofs.lemmas.List.{get_or-set_same, get_or-set_other, length-set, length_push, get_or_push, get_or_append_left, get_or_past, get_or-replicate, length-replicate}
 use Rattle.std.proofs.lemmas.List.Sums.{sum_by-set}
 use Rattle.std.specs.List.{sum_by}
@@ -12,10 +12,6 @@ use Rattle.sm_theory.proofs.Room.Bridge.{one_successor, after_inside}
 use Rattle.sm_theory.proofs.Room.Spots.{take_back}
 use Rattle.sm_answer_roommates.specs.Parties.{IsParty, IsInSomeParty, AreParties}
 use Rattle.sm_answer_roommates.specs.Walking.{is_met, ArePartiesFound, IsPartyOf, IsPartyFront}
-
-not_true : (b : Bool) → (b ≡ true → ⊥) → b ≡ false
-not_true true none = absurd (none refl)
-not_true false none = refl
 
 -- what one who isn't met counts
 pub one_where_not : Bool → ℕ
@@ -63,7 +59,7 @@ module _ {rows : List (List ℕ)} {next : List ℕ} (h : IsStablePartition rows 
   -- nobody of the party is met before
   fresh : (k : ℕ) → is_met before (after next x k) ≡ false
   fresh zero = unmet
-  fresh (suc k) = not_true _ (λ m. false≢true (sym (fresh k) ∙ back (after next x k) (inside k) m))
+  fresh (suc k) = false_from_ne_true _ (λ m. false≢true (sym (fresh k) ∙ back (after next x k) (inside k) m))
 
   above : (k : ℕ) → x ≤ after next x k
   above k = elim (lt_or_le (after next x k) x) [
@@ -126,7 +122,7 @@ module _ {rows : List (List ℕ)} {next : List ℕ} (h : IsStablePartition rows 
 
       -- the next was not met before
       pub y_unmet : is_met now y ≡ false
-      y_unmet = not_true _ (λ m. elim (w.added y m) [
+      y_unmet = false_from_ne_true _ (λ m. elim (w.added y m) [
         | inl b ↦ false≢true (sym (fresh (length party)) ∙ ap (is_met before) (sym w.comes) ∙ b)
         | inr a ↦ twice a.at a.on_list (sym (w.steps a.at a.on_list) ∙ a.is ∙ w.comes)
       ])

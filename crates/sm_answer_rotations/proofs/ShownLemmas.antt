@@ -1,7 +1,7 @@
 -- The closed sets that are shown, and the stable matchings of the instance.
-use Rattle.std.proofs.Common.{◌≡◌, ℕ, zero, suc, ◌+◌, ◌<◌, ◌≤◌, ◌==◌, ◌&&◌, cond, nat_lt, max, Bool, true, false, List, [], ◌∷◌, Option, Some, None, length, map, get_or, slice_index, slice_index_or, Contains, subst, refl, sym, ap, ◌∙◌, arith, inl, inr, ext_get_or, true≢false}
+use Rattle.std.proofs.Common.{◌≡◌, ℕ, zero, suc, ◌+◌, ◌<◌, ◌≤◌, ◌==◌, ◌&&◌, cond, nat_lt, max, Bool, true, false, List, [], ◌∷◌, Option, Some, None, length, map, get_or, slice_index, slice_index_or, Contains, subst, refl, sym, ap, ◌∙◌, arith, inl, inr, ext_get_or}
 use Rattle.std.specs.Option.{option_map}
-use Rattle.std.proofs.lemmas.Bool.{cases_lt, eqb-true, false≢true}
+use Rattle.std.proofs.lemmas.Bool.{cases_lt, eqb-true, false≢true, cases_Bool}
 use Rattle.std.proofs.lemmas.List.{get_or-map, get_or_past, length-map}
 use Rattle.std.proofs.lemmas.List.FromFn.{get_or-map-range_with_len, length-map-range_with_len}
 use Rattle.std.proofs.lemmas.List.Sums.{passes_at_first}
@@ -9,7 +9,6 @@ use Rattle.sm_lists.proofs.RangeLemmas.{greatest_more}
 use Rattle.sm_agents.specs.Written.{Written, place_of}
 use Rattle.sm_instance.specs.Stable.{IsStable}
 use Rattle.sm_instance.proofs.AcceptLemmas.{true_lt}
-use Rattle.sm_instance.proofs.LoadLemmas.{test_cases}
 use Rattle.sm_market.specs.Lists.{row, entry, place_of as market_place}
 use Rattle.sm_market.specs.Matching.{Places, held as market_held}
 use Rattle.sm_market.proofs.CycleLemmas.{turn_in}
@@ -62,7 +61,7 @@ rotation_shown s rotations k = ap pairs_of (pairs_at_shown s rotations k) ∙ pa
 -- the pair in which a shown rotation has p
 pair_of-shown : (s : Seating) (rotation : List (ℕ × ℕ)) (p : ℕ) → pair_of (map (reviewer_pair s) rotation) p ≡ pair_of rotation p
 pair_of-shown s [] p = refl
-pair_of-shown s (pair ∷ rotation) p = elim (test_cases (pair.0 == p)) [
+pair_of-shown s (pair ∷ rotation) p = elim (cases_Bool (pair.0 == p)) [
   | inl yes_ ↦ first_is (reviewer_pair s pair) (map (reviewer_pair s) rotation) yes_ ∙ sym (first_is pair rotation yes_)
   | inr no_ ↦
       let deep = pair_of-shown s rotation p in

@@ -5,7 +5,8 @@ use Rattle.std.proofs.lemmas.List.Elements.{All-append, All-cons}
 use Rattle.sm_tally.specs.Fold.{Feed, Shown, all_after_feeds}
 use Rattle.sm_tally.proofs.Folds.{nothing_fed, one_more_fed}
 use Rattle.sm_agents.specs.Written.{Written}
-use Rattle.sm_lister.specs.Listers.{Lister, IsNextOf, IsAtEnd, IsSameLister, AreAlikeBelow, IsChangedFrom}
+use Rattle.sm_lists.specs.Orders.{AreAlikeBelow}
+use Rattle.sm_lister.specs.Listers.{Lister, IsNextOf, IsAtEnd, IsSameLister, IsChangedFrom}
 use Rattle.sm_answer_list.specs.Started.{cursor_in, IsListerOf}
 use Rattle.sm_answer_list.specs.Underway.{AreListedSoFar}
 use Rattle.sm_answer_list.proofs.UnderwayLemmas.{none_so_far, one_more_so_far, stays_so_far, stays_at_end, whole_listing, cut_listing}

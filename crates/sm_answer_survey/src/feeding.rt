@@ -5,7 +5,7 @@ ghost use Rattle.sm_tally.specs.Fold.{shown_as};
 ghost use Rattle.sm_seats.specs.Seating.{seating_of};
 ghost use Rattle.sm_seats.specs.Correspondence.{IsSeating};
 ghost use Rattle.sm_seats.specs.Vectors.{IsAllowedRankVector};
-ghost use Rattle.sm_lister.specs.Listers.{AreAlikeBelow};
+ghost use Rattle.sm_lists.specs.Orders.{AreAlikeBelow};
 ghost use Rattle.sm_answer_list.specs.Started.{IsListerOf};
 ghost use Rattle.sm_answer_survey.specs.Surveying.{IsFed, AreTold, IsLastVector};
 ghost use Rattle.sm_answer_survey.specs.Surveys.{IsSurvey};

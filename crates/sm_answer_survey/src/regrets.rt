@@ -5,7 +5,7 @@ ghost use Rattle.sm_instance.specs.Matching.{IsMatching};
 ghost use Rattle.sm_instance.specs.Ranks.{rank_vector_of, regret_of};
 ghost use Rattle.sm_seats.specs.Vectors.{IsAllowedRankVector};
 ghost use Rattle.sm_tally.specs.Counts.{AreCountsOf};
-ghost use Rattle.sm_lister.specs.Listers.{AreAlikeBelow};
+ghost use Rattle.sm_lists.specs.Orders.{AreAlikeBelow};
 ghost use Rattle.sm_answer_survey.specs.Regrets.{piece, IsWorseRank, AreWorseRanks, AreSameIn, AreKeptBut, IsGreatestIn, AreGreatest, AreKeptOf};
 
 use sm_instance::Instance;

@@ -1,13 +1,10 @@
 -- How many of a list of rotations are members of a set.
 use Rattle.std.proofs.Common.{◌≡◌, ◌≢◌, ℕ, zero, suc, ◌+◌, ◌<◌, ◌≤◌, inl, inr, arith, refl, sym, ap, ◌∙◌, subst, List, [], ◌∷◌, length, Bool, true, false, slice_index, set}
 use Rattle.std.proofs.lemmas.List.{get_or-set_same, get_or-set_other}
+use Rattle.std.proofs.lemmas.Bool.{false_from_ne_true}
 use Rattle.sm_theory.specs.ClosedSets.{is_member, IsMember}
 use Rattle.sm_theory.proofs.Bridge.Chain.{Decided-member}
 use Rattle.sm_board.specs.Board.{members_in, IsInside}
-
-is_false : (b : Bool) → (b ≡ true → ⊥) → b ≡ false
-is_false true out = absurd (out refl)
-is_false false out = refl
 
 -- one more in front: a member, or none
 pub members_in-member : (C : List Bool) (x : ℕ) (xs : List ℕ) → IsMember C x → members_in C (x ∷ xs) ≡ suc (members_in C xs)
@@ -15,7 +12,7 @@ members_in-member C x xs e = rw e refl
 
 -- and one that is no member counts for nothing
 pub members_in-other : (C : List Bool) (x : ℕ) (xs : List ℕ) → (IsMember C x → ⊥) → members_in C (x ∷ xs) ≡ members_in C xs
-members_in-other C x xs out = rw (is_false (is_member C x) out) refl
+members_in-other C x xs out = rw (false_from_ne_true (is_member C x) out) refl
 
 -- no more members than entries
 pub members_few : (C : List Bool) (xs : List ℕ) → members_in C xs ≤ length xs

@@ -3,6 +3,7 @@ use Rattle.std.proofs.Common.{◌≡◌, ℕ, ◌<◌, List, [], ◌∷◌, ◌+
 use Rattle.std.specs.Prelude.{IfSome, not}
 use Rattle.std.specs.List.{list_all, cons_option}
 use Rattle.std.proofs.lemmas.Bool.{false≢true}
+use Rattle.sm_lists.proofs.BoolLemmas.{first_true, second_true}
 use Rattle.sm_agents.specs.Written.{Written}
 use Rattle.sm_market.specs.Lists.{IsMarket}
 use Rattle.sm_market.specs.Stable.{IsStable, IsProposersBest, IsReviewersBest}
@@ -28,7 +29,7 @@ use Rattle.sm_check_answers.specs.ReducedKept.{IsTriedFirst, IsGroupAt, IsReduce
 use Rattle.sm_check_clauses.specs.Verdicts.{IsFirstThere, Finds, number_of_reason}
 use Rattle.sm_check_clauses.specs.Walking.{FindsOrKeeps}
 use Rattle.sm_check_clauses.proofs.AnswerLemmas.{found_by, said_same, said_one}
-use Rattle.sm_check_forms.proofs.TakingLemmas.{and_left, and_right, all_more}
+use Rattle.sm_check_forms.proofs.TakingLemmas.{all_more}
 use Rattle.sm_check_clauses.proofs.SeatPairLemmas.{none_free}
 use Rattle.sm_check_answers.proofs.SeatListLemmas.{no_list}
 
@@ -60,13 +61,13 @@ up_to_both _ e = absurd (false≢true e)
 all_up_to_both : (above : List LineData) → list_all is_up_to_firsts above ≡ true → list_all is_up_to_lasts above ≡ true
 all_up_to_both [] e = refl
 all_up_to_both (x ∷ above) e =
-    ap (λ b. b && list_all is_up_to_lasts above) (up_to_both x (and_left (is_up_to_firsts x) (list_all is_up_to_firsts above) e)) ∙ all_up_to_both above (and_right (is_up_to_firsts x) (list_all is_up_to_firsts above) e)
+    ap (λ b. b && list_all is_up_to_lasts above) (up_to_both x (first_true (is_up_to_firsts x) (list_all is_up_to_firsts above) e)) ∙ all_up_to_both above (second_true (is_up_to_firsts x) (list_all is_up_to_firsts above) e)
 
 no_lists_in : (w : Written) (above : List LineData) → list_all is_up_to_lasts above ≡ true → (proposer_lists_in w above ≡ []) × (reviewer_lists_in w above ≡ [])
 no_lists_in w [] e = (refl, refl)
 no_lists_in w (x ∷ above) e =
-    let one = up_to_lasts w x (and_left (is_up_to_lasts x) (list_all is_up_to_lasts above) e) in
-    let others = no_lists_in w above (and_right (is_up_to_lasts x) (list_all is_up_to_lasts above) e) in (
+    let one = up_to_lasts w x (first_true (is_up_to_lasts x) (list_all is_up_to_lasts above) e) in
+    let others = no_lists_in w above (second_true (is_up_to_lasts x) (list_all is_up_to_lasts above) e) in (
       ap (λ (o : Option (ℕ × List ℕ)). cons_option o (proposer_lists_in w above)) one.0 ∙ others.0,
       ap (λ (o : Option (ℕ × List ℕ)). cons_option o (reviewer_lists_in w above)) one.1 ∙ others.1,
     )

@@ -1,6 +1,6 @@
 -- What a change of some proposers' places leaves as it was, and what it may make.
 use Rattle.std.proofs.Common.{◌≡◌, ℕ, zero, suc, ◌+◌, ◌<◌, ◌≤◌, ◌⊎◌, inl, inr, arith, refl, sym, ap, ◌∙◌, subst, Bool, true, false, List, length, min, set, get_or, slice_index, Option, Some, None, is_some, IsTrue}
-use Rattle.std.proofs.lemmas.Bool.{false≢true, eqb-true}
+use Rattle.std.proofs.lemmas.Bool.{false≢true, eqb-true, cases_Bool}
 use Rattle.std.proofs.lemmas.List.{get_or_past, get_or_default, length-set, get_or-set_same, get_or-set_other}
 use Rattle.std.specs.Prelude.{if◌then◌else◌}
 use Rattle.std.proofs.lemmas.Option.{same_Some}
@@ -14,7 +14,7 @@ use Rattle.sm_instance.specs.Crosses.{cross_place}
 use Rattle.sm_agents.proofs.ListLemmas.{row_in_range}
 use Rattle.sm_instance.proofs.PlaceLemmas.{place_of-entry}
 use Rattle.sm_instance.proofs.AcceptLemmas.{cross_some, accepts_at, one_sided_at}
-use Rattle.sm_instance.proofs.LoadLemmas.{load_before-suc, test_cases, place_at, at_place}
+use Rattle.sm_instance.proofs.LoadLemmas.{load_before-suc, place_at, at_place}
 use Rattle.sm_check_clauses.specs.declared.verdicts.Reason.{Reason}
 use Rattle.sm_check_clauses.specs.declared.verdicts.Reason.TheVariants as reason
 use Rattle.sm_check_clauses.specs.Verdicts.{number_of_reason, IsFirstThere}
@@ -50,7 +50,7 @@ same_limit {w} {a} {b} {r} same limit g =
 at_touched : (w : Written) (touched : List Bool) (p r : ℕ) (place : Option ℕ) → IsTouchedAt w touched p place → is_touched touched r ≡ false → leads_to w p r place ≡ false
 at_touched w touched p r None t not_so = refl
 at_touched w touched p r (Some i) t not_so =
-    elim (test_cases (leads_to w p r (Some i))) [
+    elim (cases_Bool (leads_to w p r (Some i))) [
       | inl at ↦ absurd (false≢true (sym not_so ∙ sym (ap (is_touched touched) (eqb-true (entry w.proposers p i) r at)) ∙ t))
       | inr elsewhere ↦ elsewhere
     ]
@@ -79,7 +79,7 @@ pub matching_again : {w : Written} {old new : List (Option ℕ)} {touched : List
 matching_again {w} {old} {new} {touched} m after t acceptable within = record {
   assigned = after;
   acceptable = acceptable;
-  within = λ r. elim (test_cases (is_touched touched r)) [
+  within = λ r. elim (cases_Bool (is_touched touched r)) [
     | inl so ↦ elim (lt_or_le r (length w.reviewers)) [
       | inl h ↦ within r h so
       | inr past ↦ absurd (false≢true (sym (get_or_past touched r false (omega (arith, past, t.one_each))) ∙ so))

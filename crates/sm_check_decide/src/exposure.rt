@@ -10,9 +10,9 @@ ghost use Rattle.sm_successors.specs.Search.{IsSearchAt};
 ghost use Rattle.sm_check_decide.specs.Exposure.{IsSafe, IsPassed, IsSearchOf};
 ghost use Rattle.sm_check_decide.specs.ExposureKept.{AreSafe, AreClosed, AreOn, AreChanged, IsSpanAdded, IsStartAdded, AreStartsAdded};
 
-use crate::needs::place_behind;
+use crate::needs::{PassedSpan, passed_span};
 use crate::trail::Trail;
-use sm_market::{Market, Pairing, next_in};
+use sm_market::{Market, Pairing};
 use sm_successors::next_proposer;
 use sm_theory::{Rotation, is_exposed};
 use std::alloc::{AllocError, Global};
@@ -167,11 +167,13 @@ fn add_changed(market: &Market, m: &Pairing, pairs: &[(u32, u32)], changed: &mut
 {
     prove!(market.proposers() < 1 << 24);
     for i in 0..pairs.len() {
-        let p = pairs[i].0;
-        let r = pairs[next_in(i, pairs.len())].1;
-        let better = market.cross(p, place_behind(market, m, pairs, i));
-        changed.put(p);
-        add_span(market, r, better, market.reviewer_standing(m, r), changed);
+        let PassedSpan {
+            reviewer,
+            better,
+            worse,
+        } = passed_span(market, m, pairs, i);
+        changed.put(pairs[i].0);
+        add_span(market, reviewer, better, worse, changed);
     }
 }
 

@@ -4,7 +4,7 @@ ghost use Rattle.std.specs.Prelude.{◌≡◌, ◌≢◌, ℕ, ◌+◌, ◌-◌,
 ghost use Rattle.sm_market.specs.Lists.{Lists, IsMarket, place_of, row};
 ghost use Rattle.sm_market.specs.Matching.{Places, IsMatching};
 ghost use Rattle.sm_market.specs.Pairing.{IsPairingOf};
-ghost use Rattle.sm_theory.specs.Rotations.{IsExposed, proposer_at, reviewer_at, target_at};
+ghost use Rattle.sm_theory.specs.Rotations.{IsExposed, proposer_at, reviewer_at, target_at, next_in};
 ghost use Rattle.sm_theory.specs.Chains.{stage, AreNeedsOf};
 ghost use Rattle.sm_theory.specs.Marks.{marks_of, note_of, mark_at, IsBetween, AreMarksFor, AreMarked, IsFoundNeed, Adds};
 ghost use Rattle.sm_check_decide.specs.Noting.{IsNotesFor, AreNoted, AreNotesBelow};
@@ -200,10 +200,50 @@ fn mark_moves(market: &Market, m: &Pairing, pairs: &[(u32, u32)], j: u32, marks:
 {
     prove!(market.proposers() < 1 << 24);
     for i in 0..pairs.len() {
-        let p = pairs[i].0;
-        let r = pairs[next_in(i, pairs.len())].1;
-        let better = market.cross(p, place_behind(market, m, pairs, i));
-        mark_span(market, r, better, market.reviewer_standing(m, r), j, marks);
+        let PassedSpan {
+            reviewer,
+            better,
+            worse,
+        } = passed_span(market, m, pairs, i);
+        mark_span(market, reviewer, better, worse, j, marks);
+    }
+}
+
+/// Those past whom a reviewer is moved: the entries of its list behind one place and before another, counted from 0.
+#[derive(Clone, Copy)]
+pub(crate) struct PassedSpan {
+    pub(crate) reviewer: u32,
+    pub(crate) better: u32,
+    pub(crate) worse: u32,
+}
+
+/// Those past whom an exposed rotation moves the reviewer to whom the proposer of one of its pairs moves, pairs counted from 0.
+/// Takes time in proportion to the places by which the proposer moves down its list.
+pub(crate) fn passed_span(
+    market: &Market,
+    m: &Pairing,
+    pairs: &[(u32, u32)],
+    i: usize,
+) -> PassedSpan
+    requires in_range { i < length pairs.now }
+    requires made { IsPairingOf market.now m.now }
+    requires exposed { IsExposed market.now m.now.places pairs.now }
+    ensures reviewer { result.reviewer ≡ target_at pairs.now i }
+    ensures in_range { result.reviewer < length market.now.reviewers }
+    ensures better { result.better ≡ place_of market.now.reviewers (target_at pairs.now i)
+        (proposer_at pairs.now i) }
+    ensures worse { result.worse ≡ place_of market.now.reviewers (target_at pairs.now i)
+        (proposer_at pairs.now (next_in pairs.now i)) }
+    ensures gains { result.better < result.worse }
+    ensures on_list { result.worse ≤ length (row market.now.reviewers result.reviewer) }
+    ensures market { IsMarket market.now }
+{
+    prove!(market.proposers() < 1 << 24);
+    let reviewer = pairs[next_in(i, pairs.len())].1;
+    PassedSpan {
+        reviewer,
+        better: market.cross(pairs[i].0, place_behind(market, m, pairs, i)),
+        worse: market.reviewer_standing(m, reviewer),
     }
 }
 

@@ -4,7 +4,7 @@ use Rattle.std.specs.Prelude.{Contains, count_by, find, if◌then◌else◌}
 use Rattle.std.specs.List.{sum_by, cons_option}
 use Rattle.std.specs.declared.alloc.Global.{Global}
 use Rattle.std.specs.Option.{option_or, option_map_or}
-use Rattle.std.proofs.lemmas.Bool.{false≢true, cases_eq}
+use Rattle.std.proofs.lemmas.Bool.{false≢true, cases_eq, or_left, or_right, or_cases}
 use Rattle.std.proofs.lemmas.Grind.{flat_map-append}
 use Rattle.std.proofs.lemmas.List.{get_or_default, get_or-replicate, length-map, length-replicate}
 use Rattle.std.proofs.lemmas.List.FromFn.{fill_by_all}
@@ -192,17 +192,6 @@ module _ {n : ℕ} {parties : List (List ℕ)} {next : List ℕ} {met : List Boo
     next_now z inside false e =
         let to = l.kept z (λ j on is. false≢true (sym e ∙ ap (λ y. is_among y party) (sym is) ∙ is_among-get_or party j on)) in
         let there = k.in_range z inside in (to ∙ k.nexts z inside ∙ sym (next_of-push_other parties party z e), rw to there)
-
-    or_left : (a b : Bool) → a ≡ true → (a || b) ≡ true
-    or_left a b e = rw e refl
-
-    or_right : (a b : Bool) → b ≡ true → (a || b) ≡ true
-    or_right true b e = refl
-    or_right false b e = e
-
-    or_cases : (a b : Bool) → (a || b) ≡ true → (a ≡ true) ⊎ (b ≡ true)
-    or_cases true b e = inl refl
-    or_cases false b e = inr e
 
     stand_now : (z : ℕ) → z < n → is_met met' z ≡ is_among z (members_of (parties ++ party ∷ []))
     stand_now z inside = same_bool (is_met met' z) (is_among z (members_of (parties ++ party ∷ [])))

@@ -5,6 +5,7 @@ use Rattle.std.specs.List.{list_all}
 use Rattle.std.specs.Str.{bytes_eq}
 use Rattle.std.specs.Prelude.{codes}
 use Rattle.sm_text.specs.Tokens.{begins_run}
+use Rattle.sm_lists.proofs.BoolLemmas.{second_true}
 use Rattle.sm_agents.specs.Sound.{is_single}
 use Rattle.sm_agents.specs.declared.kinds.Kind.{Kind}
 use Rattle.sm_agents.specs.declared.kinds.Kind.TheVariants.{Marriage, Hospitals, Roommates}
@@ -15,7 +16,6 @@ use Rattle.sm_forms.specs.declared.forms.Condition.TheVariants.{Force, Forbid}
 use Rattle.sm_forms.specs.Forms.{Form, declares, uses, are_brackets, shares, orders, weighs, binds, list_form, capacity_form, weight_form, pair_form, reviewer_form, two_sided_form, form_behind, is_colon, master_form, use_form, capacity_use_form, reviewer_use_form, order_form, second_form, two_sided_added_form, added_form, form_under}
 use Rattle.sm_agents.specs.Kinds.{has_two_sides}
 use Rattle.sm_forms.specs.Forms.{entries_in}
-use Rattle.sm_keys.proofs.WholeLemmas.{and_right}
 
 -- the list of a line that may have one
 abbrev pub listed : Option Form → List (List ℕ)
@@ -32,7 +32,7 @@ module _ (P Q : List (List ℕ) → Type 0) (tail : (t : List ℕ) (ts : List (L
   of_list side (name ∷ colon ∷ entries) h = by_test (begins_run name && is_colon colon && list_all begins_run entries) refl
     where
       by_test : (t : Bool) → (begins_run name && is_colon colon && list_all begins_run entries) ≡ t → Q (listed (cond t (Some (declares side name None entries)) None))
-      by_test true e = of_runs entries (and_right (begins_run name && is_colon colon) (list_all begins_run entries) e) (tail colon entries (tail name (colon ∷ entries) h))
+      by_test true e = of_runs entries (second_true (begins_run name && is_colon colon) (list_all begins_run entries) e) (tail colon entries (tail name (colon ∷ entries) h))
       by_test false e = none
 
   of_capacity : (rest : List (List ℕ)) → P rest → Q (listed (capacity_form rest))
@@ -48,7 +48,7 @@ module _ (P Q : List (List ℕ) → Type 0) (tail : (t : List ℕ) (ts : List (L
       by_test : (t : Bool) → (begins_run name && bytes_eq opening (codes "[") && begins_run number && bytes_eq closing (codes "]") && is_colon colon && list_all begins_run entries) ≡ t
           → Q (listed (cond t (Some (declares Reviewers name (Some number) entries)) None))
       by_test true e =
-          of_runs entries (and_right (begins_run name && bytes_eq opening (codes "[") && begins_run number && bytes_eq closing (codes "]") && is_colon colon) (list_all begins_run entries) e)
+          of_runs entries (second_true (begins_run name && bytes_eq opening (codes "[") && begins_run number && bytes_eq closing (codes "]") && is_colon colon) (list_all begins_run entries) e)
           (tail colon entries (tail closing (colon ∷ entries) (tail number (closing ∷ colon ∷ entries) (tail opening (number ∷ closing ∷ colon ∷ entries) (tail name (opening ∷ number ∷ closing ∷ colon ∷ entries) h)))))
       by_test false e = none
 
@@ -105,7 +105,7 @@ module _ (P Q : List (List ℕ) → Type 0) (tail : (t : List ℕ) (ts : List (L
   of_master (name ∷ colon ∷ entries) h = by_test (begins_run name && is_colon colon && list_all begins_run entries) refl
     where
       by_test : (t : Bool) → (begins_run name && is_colon colon && list_all begins_run entries) ≡ t → Q (listed (cond t (Some (shares name entries)) None))
-      by_test true e = of_runs entries (and_right (begins_run name && is_colon colon) (list_all begins_run entries) e) (tail colon entries (tail name (colon ∷ entries) h))
+      by_test true e = of_runs entries (second_true (begins_run name && is_colon colon) (list_all begins_run entries) e) (tail colon entries (tail name (colon ∷ entries) h))
       by_test false e = none
 
   of_order : (rest : List (List ℕ)) → P rest → Q (listed (order_form rest))

@@ -10,7 +10,7 @@ use Rattle.sm_agents.specs.declared.kinds.Kind.{Kind}
 use Rattle.sm_forms.specs.Forms.{form_under}
 use Rattle.sm_keys.specs.Tokens.{AreNamesAtEnd}
 use Rattle.sm_text.specs.Slices.{texts_of}
-use Rattle.sm_keys.proofs.WholeLemmas.{and_left, and_right}
+use Rattle.sm_lists.proofs.BoolLemmas.{first_true, second_true}
 use Rattle.sm_forms.proofs.FormLemmas.{listed, list_under}
 
 module _ (names : ℕ) where
@@ -40,9 +40,9 @@ module _ (names : ℕ) where
 -- names are runs
 pub name_begins : (token : List ℕ) → is_name token ≡ true → begins_run token ≡ true
 name_begins [] h = cc
-name_begins (b ∷ rest) h = and_left (is_name_byte b) (list_all is_name_byte rest) (and_right _ (list_all is_name_byte (b ∷ rest)) h)
+name_begins (b ∷ rest) h = first_true (is_name_byte b) (list_all is_name_byte rest) (second_true _ (list_all is_name_byte (b ∷ rest)) h)
 
 -- so all of some names are
 pub names_begin : (tokens : List (List ℕ)) → list_all is_name tokens ≡ true → list_all begins_run tokens ≡ true
 names_begin [] h = refl
-names_begin (t ∷ ts) h = rw (name_begins t (and_left (is_name t) (list_all is_name ts) h)) (names_begin ts (and_right (is_name t) (list_all is_name ts) h))
+names_begin (t ∷ ts) h = rw (name_begins t (first_true (is_name t) (list_all is_name ts) h)) (names_begin ts (second_true (is_name t) (list_all is_name ts) h))

@@ -1,6 +1,6 @@
 -- The first breach of an assignment, and how reviewers stand.
 use Rattle.std.proofs.Common.{◌≡◌, ℕ, zero, suc, ◌+◌, ◌<◌, ◌≤◌, ◌⊎◌, List, Option, Some, None, MatchOption, length, min, max, refl, sym, ap, subst, ◌∙◌, arith, ⊎_elim, inl, inr}
-use Rattle.std.proofs.lemmas.Bool.{cases_lt}
+use Rattle.std.proofs.lemmas.Bool.{cases_lt, cases_Bool}
 use Rattle.sm_text.specs.Limits.{most_agents}
 use Rattle.sm_agents.specs.Written.{Written, row, entry, place_of, capacity_of, IsAcceptable}
 use Rattle.sm_agents.specs.Sound.{IsInstance}
@@ -14,7 +14,7 @@ use Rattle.sm_instance.specs.Loads.{IsFirstOf, IsUnacceptable, IsOverfull, IsOve
 use Rattle.sm_lists.specs.declared.compact_naming.CompactNaming.{CompactNaming}
 use Rattle.sm_agents.proofs.ListLemmas.{row_in_range}
 use Rattle.sm_instance.proofs.AcceptLemmas.{cross_some}
-use Rattle.sm_instance.proofs.LoadLemmas.{load_before-suc_at, load_before-suc_other, load_before-suc, test_cases, place_at, at_place, IsCounted, IsWorstSoFar, load_next, counted_end, named_at}
+use Rattle.sm_instance.proofs.LoadLemmas.{load_before-suc_at, load_before-suc_other, load_before-suc, place_at, at_place, IsCounted, IsWorstSoFar, load_next, counted_end, named_at}
 
 -- the first of either
 pub first_merge : (P Q : ℕ → Type 0) (a b : Option ℕ) → IsFirstOf P a → IsFirstOf Q b → IsFirstOf (λ p. P p ⊎ Q p) (earlier_of a b)
@@ -73,7 +73,7 @@ within_capacity {w} {places} i assigned none r (suc k) =
     let there = x.2 in
     ⊎_elim (λ lt. omega arith) (λ full. absurd (none r k (omega arith) (record { at = x.0; holds = x.1; there = x.2; full = full }))) (cases_lt (load_before w places k r) (capacity_of w.reviewers r)))
     (λ no. let same = load_before-suc_other w places k r no in omega arith)
-    (test_cases (is_at w places k r))
+    (cases_Bool (is_at w places k r))
 
 module _ {w : Written} {places : List (Option ℕ)} (i : IsInstance w) (assigned : IsAssignment w places) where
   entry_in_range : (p at : ℕ) → held places p ≡ Some at → entry w.proposers p at < length w.reviewers

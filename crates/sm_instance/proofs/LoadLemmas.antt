@@ -1,6 +1,6 @@
 -- How many proposers a reviewer has: those who name it, one after another.
-use Rattle.std.proofs.Common.{◌≡◌, ℕ, zero, suc, ◌+◌, ◌<◌, ◌≤◌, ◌⊎◌, ◌++◌, ◌∷◌, [], cond, Bool, true, false, List, Option, Some, None, length, map, sum, refl, sym, ap, subst, ◌∙◌, arith, ⊎_elim, inl, inr}
-use Rattle.std.proofs.lemmas.Bool.{eqb-true, eq-eqb, cases_lt}
+use Rattle.std.proofs.Common.{◌≡◌, ℕ, zero, suc, ◌+◌, ◌<◌, ◌≤◌, ◌⊎◌, ◌++◌, ◌∷◌, [], cond, true, false, List, Option, Some, None, length, map, sum, refl, sym, ap, subst, ◌∙◌, arith, ⊎_elim, inl, inr}
+use Rattle.std.proofs.lemmas.Bool.{eqb-true, eq-eqb, cases_lt, cases_Bool}
 use Rattle.std.proofs.lemmas.List.FromFn.{map-range_with_len_more}
 use Rattle.std.proofs.lemmas.List.Sums.{fold-append}
 use Rattle.std.specs.List.{range_with_len}
@@ -42,11 +42,6 @@ load_same w places r j (suc k) le none =
     (λ ge. ap (λ n. load_before w places n r) (let e : suc k ≡ j = omega arith in e))
     (cases_lt j (suc k))
 
--- the cases of a test
-pub test_cases : (b : Bool) → (b ≡ true) ⊎ (b ≡ false)
-test_cases true = inl refl
-test_cases false = inr refl
-
 -- who is at r holds a place that names it
 pub place_at : (w : Written) (p r : ℕ) (o : Option ℕ) → leads_to w p r o ≡ true → (i : ℕ) × (o ≡ Some i) × (entry w.proposers p i ≡ r)
 place_at w p r None h = cc
@@ -66,7 +61,7 @@ not_at w places p r i assigned sound place other =
     let same : x.0 ≡ i = sym b ∙ sym place in
     absurd (other (x.1 ∙ ap Some same)))
     (λ no. no)
-    (test_cases (is_at w places p r))
+    (cases_Bool (is_at w places p r))
 
 -- what is held with a naming is held with the same naming
 pub held_by : {m n : CompactNaming} → m ≡ n → (places : List (Option ℕ)) → held places m.by ≡ Some m.place → held places n.by ≡ Some n.place
@@ -96,7 +91,7 @@ module _ {w : Written} {places : List (Option ℕ)} {r : ℕ} {all : List Compac
       (λ at. let x = named_at q at in let n = x.2 in let by = n.by in
       ⊎_elim (λ l. absurd (omega arith)) (λ g. absurd (omega arith)) (apart n.at n.there))
       (λ no. no)
-      (test_cases (is_at w places q r))
+      (cases_Bool (is_at w places q r))
 
   -- before any naming nobody is counted
   pub counted_start : IsCounted w places r all 0 0

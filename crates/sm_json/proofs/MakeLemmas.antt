@@ -8,7 +8,7 @@ use Rattle.std.proofs.lemmas.List.{take_all, map_more, get_or_default, length-ma
 use Rattle.std.proofs.lemmas.Str.{IsUtf8-from_ascii}
 use Rattle.sm_text.specs.Limits.{most_weight}
 use Rattle.sm_text.specs.Name.{begins_name, is_digit, is_letter, is_name, is_name_byte}
-use Rattle.sm_report.proofs.DecimalLemmas.{first_true, second_true}
+use Rattle.sm_lists.proofs.BoolLemmas.{first_true, second_true}
 use Rattle.sm_report.proofs.FieldInverses.{name_bytes}
 use Rattle.serde_json.specs.Data.{Data, number, string, array, object, Members, no_members, member, put}
 use Rattle.serde_json.specs.Find.{of_integer}

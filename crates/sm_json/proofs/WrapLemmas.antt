@@ -1,18 +1,15 @@
 -- What is written for lines is an array of strings.
 use Rattle.std.proofs.Common.{◌≡◌, ℕ, ◌<◌, ◌≤◌, ◌==◌, ◌&&◌, Bool, true, false, not, nat_le, nat_lt, List, [], ◌∷◌, ◌++◌, map, refl, sym, ap, ◌∙◌, append_assoc, arith, eqb-true, leb-true, ltb-true}
 use Rattle.std.specs.List.{list_all}
+use Rattle.std.proofs.lemmas.Bool.{not-true}
 use Rattle.json.specs.Print.{escape, escape_byte, quoted}
 use Rattle.serde_json.specs.Data.{string}
 use Rattle.serde_json.specs.View.{items_of}
 use Rattle.serde_json.specs.Written.{items_text}
 use Rattle.sm_text.specs.Lines.{LF}
-use Rattle.sm_report.proofs.DecimalLemmas.{first_true, second_true}
 use Rattle.sm_text.specs.Plain.{is_plain_byte, is_plain}
+use Rattle.sm_lists.proofs.BoolLemmas.{first_true, second_true}
 use Rattle.sm_json.specs.Wrapping.{wrapped, wrapped_from, LinesAreJson}
-
-not_true : (t : Bool) → not t ≡ true → t ≡ false
-not_true true h = absurd cc
-not_true false h = refl
 
 -- bytes from 32 on are no control characters
 no_control : (b c : ℕ) → 32 ≤ b → c < 32 → (b == c) ≡ false
@@ -33,8 +30,8 @@ unfolding is_plain_byte escape_byte
 itself b h =
     let front = first_true (nat_le 32 b && nat_le b 126 && not (b == 34)) (not (b == 92)) h in
     let least : 32 ≤ b = leb-true 32 b (first_true (nat_le 32 b) (nat_le b 126) (first_true (nat_le 32 b && nat_le b 126) (not (b == 34)) front)) in
-    let e34 = not_true (b == 34) (second_true (nat_le 32 b && nat_le b 126) (not (b == 34)) front) in
-    let e92 = not_true (b == 92) (second_true (nat_le 32 b && nat_le b 126 && not (b == 34)) (not (b == 92)) h) in
+    let e34 = not-true (b == 34) (second_true (nat_le 32 b && nat_le b 126) (not (b == 34)) front) in
+    let e92 = not-true (b == 92) (second_true (nat_le 32 b && nat_le b 126 && not (b == 34)) (not (b == 92)) h) in
     rw (
       e34,
       e92,

@@ -6,16 +6,16 @@ use Rattle.std.proofs.lemmas.List.{take-append-drop, take-append-le, drop-append
 use Rattle.sm_text.specs.Name.{is_name, is_name_byte, begins_name}
 use Rattle.sm_text.specs.Tokens.{tokens, is_blank}
 use Rattle.sm_text.proofs.TokenLemmas.{tokens_of_run}
+use Rattle.sm_lists.proofs.BoolLemmas.{first_true, second_true}
 use Rattle.sm_keys.specs.Tables.{text_at}
 use Rattle.sm_keys.specs.Lines.{IsNamed, IsNameAt}
-use Rattle.sm_keys.proofs.WholeLemmas.{and_left, and_right}
 
 -- name bytes go on up to a blank or the end
 run_of : (xs rest : List ℕ) → list_all is_name_byte xs ≡ true → prefix_len is_name_byte rest ≡ 0 → prefix_len is_name_byte (xs ++ rest) ≡ length xs
 run_of [] rest h none = none
 run_of (x ∷ xs) rest h none =
-    let behind = run_of xs rest (and_right (is_name_byte x) (list_all is_name_byte xs) h) none in
-    ap (λ t. cond t (1 + prefix_len is_name_byte (xs ++ rest)) 0) (and_left (is_name_byte x) (list_all is_name_byte xs) h) ∙ (let e : 1 + prefix_len is_name_byte (xs ++ rest) ≡ suc (length xs) = omega (arith, behind) in e)
+    let behind = run_of xs rest (second_true (is_name_byte x) (list_all is_name_byte xs) h) none in
+    ap (λ t. cond t (1 + prefix_len is_name_byte (xs ++ rest)) 0) (first_true (is_name_byte x) (list_all is_name_byte xs) h) ∙ (let e : 1 + prefix_len is_name_byte (xs ++ rest) ≡ suc (length xs) = omega (arith, behind) in e)
 
 -- a blank is no name byte
 blank_ends : (rest : List ℕ) → prefix_len is_name_byte (32 ∷ rest) ≡ 0
@@ -39,10 +39,10 @@ second_of_both xs ys = drop-append-le (length xs) xs ys (omega arith) ∙ ap (λ
 name_first : (xs rest : List ℕ) → is_name xs ≡ true → prefix_len is_name_byte rest ≡ 0 → tokens (xs ++ rest) ≡ xs ∷ tokens rest
 name_first [] rest h none = cc
 name_first (b ∷ ys) rest h none =
-    let all : list_all is_name_byte (b ∷ ys) ≡ true = and_right _ (list_all is_name_byte (b ∷ ys)) h in
+    let all : list_all is_name_byte (b ∷ ys) ≡ true = second_true _ (list_all is_name_byte (b ∷ ys)) h in
     let line = ys ++ rest in
-    let n : 1 + prefix_len is_name_byte line ≡ length (b ∷ ys) = omega (arith, run_of ys rest (and_right (is_name_byte b) (list_all is_name_byte ys) all) none) in
-    tokens_of_run b line (and_left (is_name_byte b) (list_all is_name_byte ys) all)
+    let n : 1 + prefix_len is_name_byte line ≡ length (b ∷ ys) = omega (arith, run_of ys rest (second_true (is_name_byte b) (list_all is_name_byte ys) all) none) in
+    tokens_of_run b line (first_true (is_name_byte b) (list_all is_name_byte ys) all)
     ∙ ap (λ k. take k (b ∷ line) ∷ tokens (drop k (b ∷ line))) n
     ∙ ap (λ t. t ∷ tokens (drop (length (b ∷ ys)) (b ∷ line))) (first_of_both (b ∷ ys) rest)
     ∙ ap (λ t. (b ∷ ys) ∷ tokens t) (second_of_both (b ∷ ys) rest)

@@ -5,14 +5,14 @@ use Rattle.std.proofs.lemmas.Bool.{cases_lt}
 use Rattle.std.proofs.lemmas.Bool.Decides.{nat_tests}
 use Rattle.std.proofs.lemmas.List.{drop-drop, length-drop}
 use Rattle.sm_text.specs.Name.{is_name}
+use Rattle.sm_lists.proofs.BoolLemmas.{second_true}
 use Rattle.sm_keys.specs.Tokens.{AreNamesAtEnd}
-use Rattle.sm_keys.proofs.WholeLemmas.{and_right}
 
 -- those behind some of the names are names
 names_drop : (n : ℕ) (tokens : List (List ℕ)) → list_all is_name tokens ≡ true → list_all is_name (drop n tokens) ≡ true
 names_drop zero tokens h = h
 names_drop (suc n) [] h = refl
-names_drop (suc n) (t ∷ ts) h = names_drop n ts (and_right (is_name t) (list_all is_name ts) h)
+names_drop (suc n) (t ∷ ts) h = names_drop n ts (second_true (is_name t) (list_all is_name ts) h)
 
 -- the tokens from a place on are the names at the end, where those from any earlier place on aren't all names
 pub names_from : (place : ℕ) (tokens : List (List ℕ)) → list_all is_name (drop place tokens) ≡ true

@@ -140,16 +140,6 @@ module _ (p : List ℕ → Bool) (xs : List (Bor (List ℕ))) where
   pub all_texts_end : (i : ℕ) → length xs ≤ i → list_all p (texts_of (take i xs)) ≡ true → list_all p (texts_of xs) ≡ true
   all_texts_end i past h = ap (λ t. list_all p (texts_of t)) (sym (take_all i xs past)) ∙ h
 
--- what isn't false is true
-pub from_not_false : (b : Bool) → not b ≡ false → b ≡ true
-from_not_false true h = refl
-from_not_false false h = cc
-
--- and what isn't true is false
-pub from_not_true : (b : Bool) → not b ≡ true → b ≡ false
-from_not_true true h = cc
-from_not_true false h = refl
-
 -- the keys with one more
 pub key_texts-push : (xs : List Key) (x : Key) → key_texts (xs ++ x ∷ []) ≡ key_texts xs ++ text_of x ∷ []
 key_texts-push xs x = map_push text_of xs x

@@ -7,16 +7,7 @@ use Rattle.sm_text.specs.Limits.{most_name_bytes}
 use Rattle.sm_text.specs.Name.{is_name, is_name_byte, begins_name}
 use Rattle.sm_text.specs.Tokens.{tokens, begins_run, is_blank, IsLeading}
 use Rattle.sm_text.proofs.TokenLemmas.{tokens_of_run}
-
--- the first of two that hold
-pub and_left : (s t : Bool) → (s && t) ≡ true → s ≡ true
-and_left true t h = refl
-and_left false t h = cc
-
--- the second of them
-pub and_right : (s t : Bool) → (s && t) ≡ true → t ≡ true
-and_right true t h = h
-and_right false t h = cc
+use Rattle.sm_lists.proofs.BoolLemmas.{first_true, second_true}
 
 or_right : (s t : Bool) → (not s || t) ≡ true → s ≡ true → t ≡ true
 or_right true t h k = h
@@ -37,8 +28,8 @@ one_more n b line = ap (λ k. take k (b ∷ line)) (let e : 1 + n ≡ suc n = om
 longer_whole : (b : ℕ) (first : List ℕ) (more : List (List ℕ)) → is_name_byte b ≡ true → begins_run first ≡ true → list_all is_whole (first ∷ more) ≡ true
     → list_all is_whole ((b ∷ first) ∷ more) ≡ true
 longer_whole b first more name begins h =
-    let all : list_all is_name_byte first ≡ true = or_right (begins_run first) (list_all is_name_byte first) (and_left (is_whole first) (list_all is_whole more) h) begins in
-    rw (name, all) (and_right (is_whole first) (list_all is_whole more) h)
+    let all : list_all is_name_byte first ≡ true = or_right (begins_run first) (list_all is_name_byte first) (first_true (is_whole first) (list_all is_whole more) h) begins in
+    rw (name, all) (second_true (is_whole first) (list_all is_whole more) h)
 
 joined_whole : (b : ℕ) (line : List ℕ) → is_name_byte b ≡ true → begins_run line ≡ true → list_all is_whole (tokens line) ≡ true → list_all is_whole (onto_first b (tokens line)) ≡ true
 joined_whole b [] name begins h = absurd (false≢true begins)
@@ -59,7 +50,7 @@ tokens_whole (b ∷ line) = by_hash (eqb b 35) (is_blank b) (is_name_byte b && b
         → list_all is_whole (cond s [] (cond t (tokens line) (cond u (onto_first b (tokens line)) ((b ∷ []) ∷ tokens line)))) ≡ true
     by_hash true t u e behind = refl
     by_hash false true u e behind = behind
-    by_hash false false true e behind = joined_whole b line (and_left (is_name_byte b) (begins_run line) e) (and_right (is_name_byte b) (begins_run line) e) behind
+    by_hash false false true e behind = joined_whole b line (first_true (is_name_byte b) (begins_run line) e) (second_true (is_name_byte b) (begins_run line) e) behind
     by_hash false false false e behind = rw (itself (is_name_byte b)) behind
 
 -- a token that begins a run is one
@@ -68,7 +59,7 @@ pub leading_run : (line : List ℕ) (from start stop : ℕ) → IsLeading line f
 leading_run line from start stop leading begins =
     let token = take (stop - start) (drop start line) in
     let whole = subst (λ ts. list_all is_whole ts ≡ true) leading.leads (tokens_whole (drop from line)) in
-    or_right (begins_run token) (list_all is_name_byte token) (and_left (is_whole token) (list_all is_whole (tokens (drop stop line))) whole) begins
+    or_right (begins_run token) (list_all is_name_byte token) (first_true (is_whole token) (list_all is_whole (tokens (drop stop line))) whole) begins
 
 -- two of four tests, the other two of which pass
 two_of_four : (s t u v : Bool) → s ≡ true → v ≡ true → (s && t && u && v) ≡ (t && u)

@@ -3,7 +3,7 @@ use Rattle.std.proofs.Common.{◌≡◌, ℕ, zero, suc, ◌+◌, ◌<◌, ◌�
 use Rattle.std.specs.List.{range_with_len}
 use Rattle.std.proofs.lemmas.List.{get_or-set_same, get_or-set_other, length-set}
 use Rattle.std.proofs.lemmas.List.FromFn.{get_or-map-range_with_len, length-map-range_with_len}
-use Rattle.sm_lists.proofs.Counting.{Decided, Decided-and, Decided-some, lt_or_le, eq_or_ne}
+use Rattle.sm_lists.proofs.Counting.{Decided, bool_of, holds_of, of_holds, Decided-and, Decided-some, lt_or_le, eq_or_ne}
 use Rattle.sm_market.specs.Lists.{Lists, IsMarket}
 use Rattle.sm_market.specs.Matching.{Places}
 use Rattle.sm_market.specs.Stable.{IsStable}
@@ -57,21 +57,6 @@ closed_sets_are_down_sets l rotations set = (
     closed = λ i j i_in j_in member need. down.down i j (precedes_before (record { early_in = i_in; late_in = j_in; needed = need }) (precedes_itself l rotations j)) member;
   }),
 )
-
--- a decision as a `Bool`
-bool_of : {P : Type 0} → Decided P → Bool
-bool_of (inl _) = true
-bool_of (inr _) = false
-
-holds_of : {P : Type 0} (d : Decided P) → bool_of d ≡ true → P
-unfolding bool_of
-holds_of (inl p) e = p
-holds_of (inr p) e = absurd (true≢false (sym e))
-
-of_holds : {P : Type 0} (d : Decided P) → P → bool_of d ≡ true
-unfolding bool_of
-of_holds (inl p) _ = refl
-of_holds (inr p) x = absurd (p x)
 
 module _ {l : Lists} (h : IsMarket l) {first : Places} {rotations : List (List (ℕ × ℕ))} (chain : IsCompleteChain l first rotations) where
   predecessor_lower : (i j : ℕ) → IsPredecessor l rotations i j → i < j

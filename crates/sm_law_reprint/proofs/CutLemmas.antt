@@ -1,12 +1,13 @@
 -- How a text is cut into lines, and a line into tokens.
-use Rattle.std.proofs.Common.{◌≡◌, ℕ, ◌<◌, ◌==◌, eqb, Bool, true, false, not, List, [], ◌∷◌, ◌++◌, length, map, codes, refl, sym, ap, ◌∙◌, arith, append_assoc, append-nil}
+use Rattle.std.proofs.Common.{◌≡◌, ℕ, ◌<◌, ◌==◌, eqb, true, false, not, List, [], ◌∷◌, ◌++◌, length, map, codes, refl, sym, ap, ◌∙◌, arith, append_assoc, append-nil}
 use Rattle.std.specs.List.{onto_first, list_all}
+use Rattle.std.proofs.lemmas.Bool.{not-true}
 use Rattle.sm_text.specs.Lines.{LF, CR, without_last, content, lines}
 use Rattle.sm_text.specs.Name.{begins_name, is_name_byte, is_name}
 use Rattle.sm_text.specs.Tokens.{is_blank, begins_run, tokens}
 use Rattle.sm_text.proofs.TokenLemmas.{name_no_hash, name_no_blank}
+use Rattle.sm_lists.proofs.BoolLemmas.{first_true, second_true}
 use Rattle.sm_report.specs.Fields.{spaced}
-use Rattle.sm_report.proofs.DecimalLemmas.{first_true, second_true}
 use Rattle.sm_report.proofs.FreeLemmas.{is_free}
 use Rattle.sm_answer.specs.Writing.{text_of}
 use Rattle.sm_report.proofs.FieldInverses.{name_bytes}
@@ -15,15 +16,11 @@ use Rattle.sm_report.proofs.FieldInverses.{name_bytes}
 abbrev pub with_end : List ℕ → List ℕ
 with_end line = line ++ LF ∷ []
 
-is_not : (t : Bool) → not t ≡ true → t ≡ false
-is_not true h = absurd cc
-is_not false h = refl
-
 -- a line that LF ends is the first of a text
 line_cut : (line rest : List ℕ) → is_free LF line ≡ true → lines (line ++ LF ∷ rest) ≡ with_end line ∷ lines rest
 line_cut [] rest free = refl
 line_cut (b ∷ line) rest free =
-    let other : eqb b 10 ≡ false = is_not (b == 10) (first_true (not (b == 10)) (is_free LF line) free) in
+    let other : eqb b 10 ≡ false = not-true (b == 10) (first_true (not (b == 10)) (is_free LF line) free) in
     rw other (ap (onto_first b) (line_cut line rest (second_true (not (b == 10)) (is_free LF line) free)))
 
 -- the lines of a text are those of which it was made
@@ -41,7 +38,7 @@ without_LF (b ∷ c ∷ line) = ap (λ t. b ∷ t) (without_LF (c ∷ line))
 
 without_CR : (line : List ℕ) → is_free CR line ≡ true → without_last CR line ≡ line
 without_CR [] free = refl
-without_CR (b ∷ []) free = let other : eqb b 13 ≡ false = is_not (b == 13) (first_true (not (b == 13)) true free) in rw other refl
+without_CR (b ∷ []) free = let other : eqb b 13 ≡ false = not-true (b == 13) (first_true (not (b == 13)) true free) in rw other refl
 without_CR (b ∷ c ∷ line) free = ap (λ t. b ∷ t) (without_CR (c ∷ line) (second_true (not (b == 13)) (is_free CR (c ∷ line)) free))
 
 -- what a printed line holds is the line without its end

@@ -9,10 +9,11 @@ use Rattle.std.proofs.lemmas.Bool.{and_from}
 use Rattle.sm_text.specs.Lines.{LF, CR}
 use Rattle.sm_text.specs.Name.{is_digit, begins_name, is_name_byte, is_name}
 use Rattle.sm_text.specs.Tokens.{is_blank, begins_run, tokens}
+use Rattle.sm_lists.proofs.BoolLemmas.{first_true, second_true}
 use Rattle.sm_agents.specs.declared.kinds.Kind.{Kind}
 use Rattle.sm_agents.specs.declared.kinds.Kind.TheVariants.{Marriage, Hospitals, Roommates}
 use Rattle.sm_report.specs.Fields.{spaced}
-use Rattle.sm_report.proofs.DecimalLemmas.{first_true, second_true, digits_of_decimal}
+use Rattle.sm_report.proofs.DecimalLemmas.{digits_of_decimal}
 use Rattle.sm_report.proofs.FreeLemmas.{is_free, free_of, free-append}
 use Rattle.sm_instance_lines.specs.Printed.{header_line, list_text, capacity_text}
 use Rattle.sm_agents.specs.Kinds.{kind_name}

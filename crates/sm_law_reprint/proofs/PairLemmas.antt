@@ -15,9 +15,10 @@ use Rattle.sm_agents.specs.Named.{SaidAgent, SaidPair, SaidWeight, Said, nothing
 use Rattle.sm_forms.specs.declared.forms.Condition.TheVariants.{Force, Forbid}
 use Rattle.sm_reader.specs.Judging.{said_with, goes, verdict_on}
 use Rattle.sm_keys.proofs.TextLemmas.{equal_text}
-use Rattle.sm_report.proofs.DecimalLemmas.{first_true, second_true, signed_of-decimal}
+use Rattle.sm_report.proofs.DecimalLemmas.{signed_of-decimal}
 use Rattle.sm_agents.proofs.NonzeroLemmas.{zero_is}
 use Rattle.sm_text.specs.Tokens.{begins_run}
+use Rattle.sm_lists.proofs.BoolLemmas.{first_true, second_true}
 use Rattle.sm_agents.specs.Nonzero.{is_zero}
 use Rattle.sm_instance_lines.specs.Printed.{pair_text, weight_line, force_line, forbid_line}
 use Rattle.sm_law_reprint.proofs.CutLemmas.{tokens-run, tokens-run_alone, tokens-blank, no_run}

@@ -9,6 +9,7 @@ use Rattle.sm_text.specs.Limits.{most_agents, most_entries}
 use Rattle.sm_text.specs.Name.{begins_name, is_name_byte, is_name}
 use Rattle.sm_text.specs.Tokens.{is_mark, begins_run, tokens}
 use Rattle.sm_text.specs.declared.refusal.RefusalKind.TheVariants.{BadName, BadNumber, Redeclared, RepeatedEntry, RepeatedWeight, TooManyAgents, TooManyEntries}
+use Rattle.sm_lists.proofs.BoolLemmas.{first_true}
 use Rattle.sm_agents.specs.declared.kinds.Kind.{Kind}
 use Rattle.sm_agents.specs.declared.kinds.Kind.TheVariants.{Marriage, Hospitals, Roommates}
 use Rattle.sm_agents.specs.declared.kinds.Side.{Side}
@@ -21,7 +22,6 @@ use Rattle.sm_keys.specs.Tokens.{is_bad}
 use Rattle.sm_reader.specs.Judging.{goes, stops, heads, heading_of, verdict_on, first_fault, fault_of, said_with, is_bad_capacity, weight_in, second_in}
 use Rattle.sm_keys.specs.Tables.{has_repeated}
 use Rattle.sm_forms.proofs.NameLemmas.{names_begin, name_begins}
-use Rattle.sm_report.proofs.DecimalLemmas.{first_true}
 use Rattle.sm_instance_lines.specs.Printed.{header_line}
 use Rattle.sm_law_reprint.proofs.LineLemmas.{headers_cut, end_cut}
 use Rattle.sm_keys.proofs.RunLemmas.{run_no_bad}

@@ -7,6 +7,7 @@ use Rattle.std.proofs.lemmas.Bool.{and_from}
 use Rattle.sm_text.specs.Limits.{most_bytes}
 use Rattle.sm_text.specs.Lines.{LF, CR, lines, content, texts_from}
 use Rattle.sm_text.specs.Tokens.{tokens}
+use Rattle.sm_lists.proofs.BoolLemmas.{first_true, second_true}
 use Rattle.sm_instance.specs.Inputs.{IsInput}
 use Rattle.sm_instance.specs.declared.inputs.Input.{Input}
 use Rattle.sm_agents.specs.declared.kinds.Kind.{Kind}
@@ -17,7 +18,6 @@ use Rattle.sm_reader.proofs.ReadingLemmas.{instance_text-short}
 use Rattle.sm_report.specs.Lines.{LineData}
 use Rattle.sm_report.specs.Sound.{IsLineOf}
 use Rattle.sm_report.specs.Texts.{text_of_line}
-use Rattle.sm_report.proofs.DecimalLemmas.{first_true, second_true}
 use Rattle.sm_report.proofs.FreeLemmas.{is_free}
 use Rattle.sm_report.proofs.FreeLines.{line_free}
 use Rattle.sm_answer.specs.Writing.{text_of}

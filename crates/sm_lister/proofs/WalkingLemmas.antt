@@ -12,7 +12,7 @@ use Rattle.sm_board.specs.Walks.{vector, AgreesUpTo, IsMark, IsNextUp, NoneFrom,
 use Rattle.sm_board.proofs.HeldLemmas.{one_log, contained_at}
 use Rattle.sm_board.proofs.WalkLemmas.{vector_at, vector_long, up_where_raised, none_where_not_raised, next_up_is_first, mark_before, mark_behind, walk_begins, follow_on, follow_ends}
 use Rattle.sm_lister.specs.declared.vector_walk.VectorWalk.{VectorWalk}
-use Rattle.sm_lister.specs.Listers.{AreAlikeBelow}
+use Rattle.sm_lists.specs.Orders.{AreAlikeBelow}
 use Rattle.sm_lister.specs.Walking.{AreLogMarks, IsMadeFor, IsUnderWay, AreLeast, IsHeldUp, IsBroughtTo, IsVectorReached, IsMarkedAlong}
 
 -- a log has one set

@@ -1,8 +1,9 @@
 -- What a `Lister` tells: the poset and levels for which it was made, its conditions and its order, and the vector to which it
 -- came last or behind which it goes on.
-use Rattle.std.specs.Prelude.{◌≡◌, ◌⊎◌, ℕ, ◌+◌, ◌<◌, Bool, true, false, Result, Ok, Err, Vec, List, Option, None, Some, slice_index}
+use Rattle.std.specs.Prelude.{◌≡◌, ◌⊎◌, ℕ, ◌+◌, Bool, true, false, Result, Ok, Err, Vec, List, Option, None, Some}
 use Rattle.std.specs.declared.alloc.AllocError.{AllocError}
 use Rattle.std.specs.declared.alloc.Global.{Global}
+use Rattle.sm_lists.specs.Orders.{AreAlikeBelow}
 use Rattle.sm_theory.specs.ClosedSets.{matching_of}
 use Rattle.sm_theory.specs.Vectors.{IsBefore, IsAllowedVector, level_vector_of}
 use Rattle.sm_theory.specs.Listings.{IsNextListed, IsNoneBehind}
@@ -33,10 +34,6 @@ IsNextOf s v = IsNextListed (IsBefore s.order) (IsListed s) s.cursor v
 -- no vector in question is behind the cursor
 abbrev pub IsAtEnd : Lister → Type 0
 IsAtEnd s = IsNoneBehind (IsBefore s.order) (IsListed s) s.cursor
-
--- two vectors have the same levels below a proposer
-abbrev pub AreAlikeBelow : ℕ → (u v : List ℕ) → Type 0
-AreAlikeBelow from u v = (p : ℕ) → p < from → slice_index u p ≡ slice_index v p
 
 -- below a proposer a vector has the levels of the cursor; the proposer is 0 where there is no cursor
 abbrev pub IsChangedFrom : ℕ → Option (List ℕ) → List ℕ → Type 0

@@ -2,7 +2,7 @@
 
 ghost use Rattle.std.specs.Prelude.{◌≡◌, ℕ, ◌+◌, ◌<◌, ◌≤◌, true, false, Some, length, slice_index};
 ghost use Rattle.sm_board.specs.Board.{Fits, IsLeast, IsInside};
-ghost use Rattle.sm_lister.specs.Listers.{AreAlikeBelow};
+ghost use Rattle.sm_lists.specs.Orders.{AreAlikeBelow};
 ghost use Rattle.sm_lister.specs.Walking.{cursor_of, IsMadeFor, IsUnderWay, IsHeldUp, IsBroughtTo, IsVectorReached, IsMarkedAlong, IsKeptWalk, NoneLeft};
 ghost use Rattle.sm_lister.specs.Barred.{AreBars};
 

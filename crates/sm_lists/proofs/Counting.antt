@@ -46,6 +46,23 @@ pub Decided-true : (b : Bool) → Decided (b ≡ true)
 Decided-true true = inl refl
 Decided-true false = inr (λ e. false≢true e)
 
+-- a decision as a `Bool`
+pub bool_of : {P : Type 0} → Decided P → Bool
+bool_of (inl _) = true
+bool_of (inr _) = false
+
+-- what holds where that is true
+pub holds_of : {P : Type 0} (d : Decided P) → bool_of d ≡ true → P
+unfolding bool_of
+holds_of (inl p) e = p
+holds_of (inr p) e = absurd (false≢true e)
+
+-- and it is true where it holds
+pub of_holds : {P : Type 0} (d : Decided P) → P → bool_of d ≡ true
+unfolding bool_of
+of_holds (inl p) _ = refl
+of_holds (inr p) x = absurd (p x)
+
 -- what isn't so where its denial is absurd
 pub by_contradiction : {P : Type 0} → Decided P → ((P → ⊥) → ⊥) → P
 by_contradiction (inl p) _ = p

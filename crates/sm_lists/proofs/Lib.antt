@@ -1,3 +1,4 @@
+pub mod BoolLemmas
 pub mod Counting
 pub mod PlaceLemmas
 pub mod ItemLemmas

@@ -7,3 +7,7 @@ pub record IsBefore (order v w : List ℕ) : Type 0 where
   pub within : at < length order
   pub smaller : slice_index v (slice_index order at) < slice_index w (slice_index order at)
   pub alike : (j : ℕ) → j < at → slice_index v (slice_index order j) ≡ slice_index w (slice_index order j)
+
+-- two vectors have the same numbers below an agent
+abbrev pub AreAlikeBelow : ℕ → (u v : List ℕ) → Type 0
+AreAlikeBelow from u v = (p : ℕ) → p < from → slice_index u p ≡ slice_index v p

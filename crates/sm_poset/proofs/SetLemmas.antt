@@ -1,8 +1,8 @@
 -- Sets of rotations and their matchings.
-use Rattle.std.proofs.Common.{◌≡◌, ℕ, zero, suc, ◌<◌, ◌≤◌, ◌⊎◌, inl, inr, arith, refl, sym, ap, ◌∙◌, subst, List, [], Option, Some, None, length, Bool, true, false, max, lt-ltb, le-ltb, Contains, slice_index_or, nat_le, map}
+use Rattle.std.proofs.Common.{◌≡◌, ℕ, zero, suc, ◌<◌, ◌≤◌, ◌⊎◌, inl, inr, arith, refl, sym, ap, ◌∙◌, subst, List, [], Option, Some, None, length, Bool, false, max, lt-ltb, le-ltb, Contains, slice_index_or, nat_le, map}
 use Rattle.std.specs.Option.{option_map}
 use Rattle.std.specs.List.{All}
-use Rattle.std.proofs.lemmas.Bool.{le-leb, lt-leb}
+use Rattle.std.proofs.lemmas.Bool.{le-leb, lt-leb, false_from_ne_true}
 use Rattle.std.proofs.lemmas.List.{get_or_read, get_or_default, get_or-map, length-map, ext_get_or, get_or_past}
 use Rattle.std.proofs.lemmas.List.FromFn.{get_or-map-range_with_len, length-map-range_with_len}
 use Rattle.sm_lists.proofs.ResultLemmas.{cond-and_false}
@@ -72,16 +72,12 @@ module _ (l : Lists) (rotations : List (List (ℕ × ℕ))) (set : List Bool) (p
     ];
   }
 
-  is_false : (b : Bool) → (b ≡ true → ⊥) → b ≡ false
-  is_false true out = absurd (out refl)
-  is_false false out = refl
-
   -- the worst place, as it is computed
   pub worst : (n : ℕ) → Worst l rotations set p i n (worst_place l rotations set p i n)
   worst zero = record { low = omega arith; reach = λ k j h. absurd (omega arith); attained = inl refl }
   worst (suc n) = elim (Decided-member set n) [
     | inr out ↦
-        let e : worst_place l rotations set p i (suc n) ≡ worst_place l rotations set p i n = worst_more l rotations set p i n ∙ rw (is_false (is_member set n) out) refl in
+        let e : worst_place l rotations set p i (suc n) ≡ worst_place l rotations set p i n = worst_more l rotations set p i n ∙ rw (false_from_ne_true (is_member set n) out) refl in
         subst (Worst l rotations set p i (suc n)) (sym e) (kept n (worst_place l rotations set p i n) (λ j member v. out member) (worst n))
     | inl member ↦ elim (lt_or_le (pair_of (rotation_at rotations n) p) (length (rotation_at rotations n))) [
       | inr past ↦
@@ -164,13 +160,9 @@ member_where {l} h {first} {rotations} chain {m} set closed is p k i g w = elim 
   | inl member ↦ le-leb i (standing l.proposers m.proposers p) (omega (arith, of.reach p k g member mv, move_stands h chain p k i g w)) ∙ sym member
   | inr out ↦
       lt-leb i (standing l.proposers m.proposers p) (omega (arith, upper (way_of (chain_of h chain)) (closed_of h closed) of k p g out mv, up_at (way_of (chain_of h chain)) k p g mv, move_stands h chain p k i g w))
-      ∙ sym (is_false (is_member set k) out)
+      ∙ sym (false_from_ne_true (is_member set k) out)
 ]
   where
-    is_false : (b : Bool) → (b ≡ true → ⊥) → b ≡ false
-    is_false true out = absurd (out refl)
-    is_false false out = refl
-
     mv : Moves (cycle_of (rotation_at rotations k)) p
     mv = moves_of_move h chain p k i w
 

@@ -10,6 +10,7 @@ use Rattle.std.proofs.lemmas.Bool.{false≢true}
 use Rattle.std.proofs.lemmas.List.{append-nil, length-map}
 use Rattle.sm_text.specs.Name.{is_name, is_name_byte, begins_name}
 use Rattle.sm_text.specs.Tokens.{tokens, is_mark}
+use Rattle.sm_lists.proofs.BoolLemmas.{first_true, second_true}
 use Rattle.sm_agents.specs.declared.kinds.Kind.{Kind}
 use Rattle.sm_agents.specs.declared.kinds.Kind.TheVariants.{Marriage, Hospitals, Roommates}
 use Rattle.sm_agents.specs.declared.kinds.Side.{Side}
@@ -18,7 +19,6 @@ use Rattle.sm_agents.specs.Named.{Said, entries_of, entries_of_masters}
 use Rattle.sm_keys.specs.Tables.{has_repeated, Table, Extends, Declares, IsListed, text_at}
 use Rattle.sm_keys.specs.Tokens.{is_bad}
 use Rattle.sm_keys.proofs.RunLemmas.{run_no_bad}
-use Rattle.sm_keys.proofs.WholeLemmas.{and_left, and_right}
 use Rattle.sm_forms.specs.Forms.{Form, declares, list_form, reviewer_form, two_sided_form, form_behind, form_under, is_end}
 use Rattle.sm_agents.specs.Kinds.{has_two_sides}
 use Rattle.sm_reader.specs.Judging.{goes, verdict_on, of_form}
@@ -89,7 +89,7 @@ declares_side kind word side two by = record { two_sided = two; form = λ format
 names_not_bad : (tokens : List (List ℕ)) → list_all is_name tokens ≡ true → list_any is_bad tokens ≡ false
 names_not_bad [] h = refl
 names_not_bad (t ∷ ts) h =
-    rw (run_no_bad t (name_begins t (and_left (is_name t) (list_all is_name ts) h))) (names_not_bad ts (and_right (is_name t) (list_all is_name ts) h))
+    rw (run_no_bad t (name_begins t (first_true (is_name t) (list_all is_name ts) h))) (names_not_bad ts (second_true (is_name t) (list_all is_name ts) h))
 
 -- nor is a colon
 colon_not_bad : is_bad (codes ":") ≡ false

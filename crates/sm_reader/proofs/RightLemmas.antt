@@ -16,6 +16,7 @@ use Rattle.sm_text.specs.Name.{is_name}
 use Rattle.sm_text.specs.Numbers.{is_number, value_of, number_of, signed_of, negated}
 use Rattle.sm_text.specs.declared.refusal.RefusalKind.{RefusalKind}
 use Rattle.sm_text.specs.declared.refusal.RefusalKind.TheVariants.{BadByte, BadName, BadNumber, Redeclared, RepeatedEntry, RepeatedWeight, TooManyEntries}
+use Rattle.sm_lists.proofs.BoolLemmas.{first_true, second_true}
 use Rattle.sm_agents.specs.Sound.{is_single}
 use Rattle.sm_agents.specs.declared.kinds.Kind.{Kind}
 use Rattle.sm_agents.specs.declared.kinds.Kind.TheVariants.{Marriage, Hospitals, Roommates}
@@ -247,15 +248,6 @@ form_under_single kind format word xs form e = by_test _ e
     ]
     by_test false h = form_single kind word xs form h
 
--- parts of tables without a fault
-and_left : (a b : Bool) → (a && b) ≡ true → a ≡ true
-and_left true b h = refl
-and_left false b h = h
-
-and_right : (a b : Bool) → (a && b) ≡ true → b ≡ true
-and_right true b h = h
-and_right false b h = absurd (false≢true h)
-
 both_none : {X : Type 0} (a b : Option X) → option_or a b ≡ None → (a ≡ None) × (b ≡ None)
 both_none None b h = (refl, h)
 both_none (Some x) b h = absurd cc
@@ -285,7 +277,7 @@ number_le run most v h = by_test (is_number run && nat_le (value_of run) most) r
   where
     by_test : (t : Bool) → (is_number run && nat_le (value_of run) most) ≡ t → cond t (Some (value_of run)) None ≡ Some v → v ≤ most
     by_test true e k =
-        let le : nat_le (value_of run) most ≡ true = and_right (is_number run) (nat_le (value_of run) most) e in
+        let le : nat_le (value_of run) most ≡ true = second_true (is_number run) (nat_le (value_of run) most) e in
         let same : value_of run ≡ v = cc in
         grind (arith, nat_tests)
     by_test false e k = absurd cc
@@ -376,7 +368,7 @@ agent_right kind said line Proposers name capacity entries right single none =
     let a : SaidAgent = record { name = name; capacity = unwrap_or (option_and_then capacity_in capacity) 1; line = line; entries = entries } in
     record {
       proposers = All-push (IsRightAgent true) said.proposers a right.proposers (record {
-        name = and_left (is_name name) (list_all is_name entries) runs.0;
+        name = first_true (is_name name) (list_all is_name entries) runs.0;
         capacity = capacity_fits capacity runs.1;
         one = λ h. ap (λ o. unwrap_or (option_and_then capacity_in o) 1) single;
         differ = names.1;
@@ -401,7 +393,7 @@ agent_right kind said line Reviewers name capacity entries right single none =
     record {
       proposers = right.proposers;
       reviewers = All-push (IsRightAgent (is_single kind)) said.reviewers a right.reviewers (record {
-        name = and_left (is_name name) (list_all is_name entries) runs.0;
+        name = first_true (is_name name) (list_all is_name entries) runs.0;
         capacity = capacity_fits capacity runs.1;
         one = λ h. ap (λ o. unwrap_or (option_and_then capacity_in o) 1) (single h);
         differ = names.1;

@@ -1,9 +1,9 @@
 -- What is right, with all names declared, makes a sound instance.
-use Rattle.std.proofs.Common.{◌≡◌, ◌≢◌, ℕ, zero, suc, ◌+◌, ◌<◌, ◌≤◌, ◌&&◌, ◌||◌, Bool, true, false, not, cond, List, [], ◌∷◌, ◌++◌, length, map, filter, get_or, Option, Some, None, refl, sym, ap, ◌∙◌, append_assoc, subst, inl, inr, arith, All, AllPairs, pos, ℤ}
+use Rattle.std.proofs.Common.{◌≡◌, ◌≢◌, ℕ, zero, suc, ◌+◌, ◌<◌, ◌≤◌, ◌||◌, Bool, true, false, not, cond, List, [], ◌∷◌, ◌++◌, length, map, filter, get_or, Option, Some, None, refl, sym, ap, ◌∙◌, append_assoc, subst, inl, inr, arith, All, AllPairs, pos, ℤ}
 use Rattle.std.specs.List.{list_any, fold}
 use Rattle.std.specs.Int.RustNames.{unsigned_abs}
 use Rattle.std.specs.Str.{bytes_eq}
-use Rattle.std.proofs.lemmas.Bool.{false≢true, cases_lt}
+use Rattle.std.proofs.lemmas.Bool.{false≢true, cases_lt, and_from}
 use Rattle.std.proofs.lemmas.List.{length-map, length-append, get_or-map, get_or_past}
 use Rattle.std.proofs.lemmas.List.Elements.{All-append, All-map}
 use Rattle.std.proofs.lemmas.List.Folds.{list_any_at, fold-map}
@@ -181,10 +181,6 @@ module _ (said : Said) where
   same_names : (names : List (List ℕ)) (a b : List ℕ) → list_any (bytes_eq a) names ≡ true → list_any (bytes_eq b) names ≡ true → number_in names a ≡ number_in names b → a ≡ b
   same_names names a b ha hb e = sym (at_position a names ha) ∙ ap (λ n. get_or names n []) e ∙ at_position b names hb
 
-  both_true : (a b : Bool) → a ≡ true → b ≡ true → (a && b) ≡ true
-  both_true true b ha hb = hb
-  both_true false b ha hb = absurd (false≢true ha)
-
   no_weight : SaidWeight
   no_weight = record { pair = record { proposer = []; reviewer = []; line = 0 }; weight = pos 0; second = pos 0 }
 
@@ -221,7 +217,7 @@ module _ (said : Said) where
             let e : numbered_pair said a ≡ numbered_pair said b = sym (item k there) ∙ same ∙ item i here in
             let p_same = same_names (names_of said.proposers) b.proposer a.proposer (found_proposer b (mark_at i here)) (found_proposer a (mark_at k there)) (sym (ap (λ (x : ℕ × ℕ). x.0) e)) in
             let r_same = same_names (names_of said.reviewers) b.reviewer a.reviewer (found_reviewer b (mark_at i here)) (found_reviewer a (mark_at k there)) (sym (ap (λ (x : ℕ × ℕ). x.1) e)) in
-            false≢true (sym (right.weights_differ k i no_weight before here) ∙ both_true (bytes_eq b.proposer a.proposer) (bytes_eq b.reviewer a.reviewer) (same_text b.proposer a.proposer p_same) (same_text b.reviewer a.reviewer r_same));
+            false≢true (sym (right.weights_differ k i no_weight before here) ∙ and_from (bytes_eq b.proposer a.proposer) (bytes_eq b.reviewer a.reviewer) (same_text b.proposer a.proposer p_same) (same_text b.reviewer a.reviewer r_same));
       }
 
 -- an order of known proposers has each of them once

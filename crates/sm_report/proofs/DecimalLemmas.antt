@@ -11,16 +11,7 @@ use Rattle.std.specs.List.{list_all}
 use Rattle.sm_text.specs.Name.{is_digit}
 use Rattle.sm_text.specs.Numbers.{is_number, value_behind, value_of, number_of, negated, signed_of}
 use Rattle.sm_text.proofs.NumberLemmas.{value_behind-ge}
-
--- where two tests pass together, the first passes
-pub first_true : (a b : Bool) → (a && b) ≡ true → a ≡ true
-first_true true b h = refl
-first_true false b h = absurd cc
-
--- and the second passes
-pub second_true : (a b : Bool) → (a && b) ≡ true → b ≡ true
-second_true true b h = h
-second_true false b h = absurd cc
+use Rattle.sm_lists.proofs.BoolLemmas.{first_true, second_true}
 
 -- a digit is between `0` and `9`
 digit_ge : (d : ℕ) → is_digit d ≡ true → 48 ≤ d

@@ -19,6 +19,7 @@ use Rattle.std.proofs.lemmas.List.Sums.{position_or_len_is, passes_at_first, spl
 use Rattle.std.proofs.lemmas.Option.{none-some, same_Some}
 use Rattle.sm_text.specs.Name.{is_name, is_name_byte, begins_name, is_digit}
 use Rattle.sm_text.specs.Numbers.{number_of}
+use Rattle.sm_lists.proofs.BoolLemmas.{second_true}
 use Rattle.sm_agents.specs.Written.{AgentData, agent_at, names_of}
 use Rattle.sm_agents.specs.Sound.{AreSoundAgents}
 use Rattle.sm_instance.specs.Inputs.{IsInput, kind_of}
@@ -33,7 +34,7 @@ use Rattle.sm_report.specs.Sound.{IsOnLeft, IsOnRight, IsSeatNumber, IsSmall, Is
 use Rattle.sm_report.specs.Texts.{left_name, right_name, seat_text, seat_text_in, vector_text, end_text, SOURCE, SINK}
 use Rattle.sm_report.specs.Vectors.{vector_in, numbers_in, is_comma}
 use Rattle.sm_report.specs.Meanings.{left_in, right_in, at_least, number_within, small_in, large_in, signed_in, rotation_in, rising_above, seat, seat_by, seat_in, numbered_seat_in, is_slash, end_in, reason_in, least_limit, limit_named}
-use Rattle.sm_report.proofs.DecimalLemmas.{second_true, digits_of_decimal, number_of-decimal, number_spelt, signed_of-decimal, signed_spelt}
+use Rattle.sm_report.proofs.DecimalLemmas.{digits_of_decimal, number_of-decimal, number_spelt, signed_of-decimal, signed_spelt}
 use Rattle.sm_report.proofs.InverseLemmas.{Inverts, mapped, chained, zipped, text_true, text_same, by_answer, each_inverts}
 use Rattle.sm_report.proofs.FreeLemmas.{is_free, free_of, cut_at_byte, split_joined}
 

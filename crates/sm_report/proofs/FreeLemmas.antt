@@ -1,12 +1,12 @@
 -- Texts without a byte that stands between texts.
 use Rattle.std.proofs.Common.{◌≡◌, ℕ, ◌+◌, ◌==◌, Bool, true, false, not, cond, List, [], ◌∷◌, ◌++◌, length, take, drop, All, refl, ap, ◌∙◌, arith, eq-eqb}
 use Rattle.std.specs.List.{list_all, slice_split, join_with_byte, position_or_len, before_first, after_first}
-use Rattle.std.proofs.lemmas.Bool.{eqb-true, and_from}
+use Rattle.std.proofs.lemmas.Bool.{eqb-true, and_from, not-true}
 use Rattle.std.proofs.lemmas.List.Elements.{All-nil, All-cons}
 use Rattle.std.proofs.lemmas.List.Folds.{list_all-append}
 use Rattle.std.proofs.lemmas.List.Splits.{slice_split_none, slice_split_at}
 use Rattle.std.proofs.Math.Seq.{take-append_seam, drop-append-add}
-use Rattle.sm_report.proofs.DecimalLemmas.{first_true, second_true}
+use Rattle.sm_lists.proofs.BoolLemmas.{first_true, second_true}
 use Rattle.sm_report.proofs.InverseLemmas.{by_answer}
 
 -- whether a byte stands nowhere in a text
@@ -28,15 +28,10 @@ free_of p c fails (b ∷ text) h =
 pub free-append : (c : ℕ) (xs ys : List ℕ) → is_free c xs ≡ true → is_free c ys ≡ true → is_free c (xs ++ ys) ≡ true
 free-append c xs ys h k = list_all-append (λ b. not (b == c)) xs ys ∙ and_from (is_free c xs) (is_free c ys) h k
 
--- the same said of each place
-not_true : (t : Bool) → not t ≡ true → t ≡ false
-not_true true h = absurd cc
-not_true false h = refl
-
 none_is : (c : ℕ) (text : List ℕ) → is_free c text ≡ true → All (λ b. (b == c) ≡ false) text
 none_is c [] h = All-nil (λ b. (b == c) ≡ false)
 none_is c (b ∷ text) h =
-    All-cons (λ b. (b == c) ≡ false) b text (not_true (b == c) (first_true (not (b == c)) (is_free c text) h))
+    All-cons (λ b. (b == c) ≡ false) b text (not-true (b == c) (first_true (not (b == c)) (is_free c text) h))
     (none_is c text (second_true (not (b == c)) (is_free c text) h))
 
 -- what was joined by a byte that none of the parts holds is cut into these parts again

@@ -9,6 +9,7 @@ use Rattle.std.proofs.lemmas.Option.{none-some}
 use Rattle.std.proofs.lemmas.Bool.{and_from}
 use Rattle.sm_text.specs.Plain.{is_plain_byte, is_plain}
 use Rattle.sm_text.specs.Name.{begins_name, is_digit, is_letter, is_name, is_name_byte}
+use Rattle.sm_lists.proofs.BoolLemmas.{first_true, second_true}
 use Rattle.sm_instance.specs.Inputs.{IsInput, kind_of}
 use Rattle.sm_instance.specs.declared.inputs.Input.{Input}
 use Rattle.sm_agents.specs.declared.kinds.Kind.{Kind}
@@ -22,7 +23,7 @@ use Rattle.sm_report.specs.Reasons.{reasons, name_of_reason}
 use Rattle.sm_report.specs.Sound.{IsLineOf, IsOnLeft, IsOnRight, IsSmall, IsLarge, IsRotation, IsLimit, IsSeatNumber, IsHeadOf}
 use Rattle.sm_report.specs.Texts.{left_name, right_name, seat_text, seat_text_in, listed, lefts, seats, seated_pairs, numbers, vector_text, end_text, limit_text, fields_of, fields_of_head, text_of_line, SOURCE, SINK}
 use Rattle.sm_report.specs.Meanings.{fields_in, line_in, headed_of}
-use Rattle.sm_report.proofs.DecimalLemmas.{first_true, second_true, digits_of_decimal}
+use Rattle.sm_report.proofs.DecimalLemmas.{digits_of_decimal}
 use Rattle.sm_report.proofs.FreeLemmas.{is_free, free_of, free-append, split_joined}
 use Rattle.sm_report.proofs.FieldInverses.{is_name-left_name, is_name-right_name, name_bytes}
 use Rattle.sm_report.proofs.LineInverses.{All-of_map, line_again}

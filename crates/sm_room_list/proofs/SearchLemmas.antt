@@ -3,7 +3,7 @@ use Rattle.std.proofs.Common.{◌≡◌, ℕ, ◌+◌, ◌-◌, ◌<◌, ◌≤�
 use Rattle.std.proofs.lemmas.List.{ext_get_or, length-set}
 use Rattle.std.proofs.lemmas.List.FromFn.{get_or-map-range_with_len, length-map-range_with_len, get_or-range_with_len, length-range_with_len}
 use Rattle.sm_lists.specs.Rows.{row, agents}
-use Rattle.sm_lists.specs.Orders.{IsBefore}
+use Rattle.sm_lists.specs.Orders.{IsBefore, AreAlikeBelow}
 use Rattle.sm_lists.proofs.Counting.{lt_or_le, eq_or_ne, less_same_more}
 use Rattle.sm_lists.proofs.ItemLemmas.{set_cases}
 use Rattle.sm_theory.specs.Rooms.{IsRoomStable}
@@ -11,7 +11,7 @@ use Rattle.sm_theory.specs.Listings.{IsNextListed, IsNoneBehind}
 use Rattle.sm_room_list.specs.RoomVectors.{room_rank, IsRoomVector}
 use Rattle.sm_room_list.specs.Cuts.{IsStableWithin}
 use Rattle.sm_room_list.specs.Tops.{AreTops, AreLowered, IsVectorWithin}
-use Rattle.sm_room_list.specs.Search.{AreAlike, IsAboveAt, NoneAt, HoldAlike, HoldAbove, IsHeld, IsLeastWithin, IsSettledAt}
+use Rattle.sm_room_list.specs.Search.{IsAboveAt, NoneAt, HoldAlike, HoldAbove, IsHeld, IsLeastWithin, IsSettledAt}
 use Rattle.sm_room_list.proofs.TopsLemmas.{within_lower}
 
 -- a rank vector has the ranks
@@ -63,12 +63,12 @@ module _ {rows : List (List ℕ)} where
     }
 
     -- or can't have it
-    pub follow_low : {passed : List ℕ} → AreTops rows tops passed → get_or c k 0 ≤ get_or passed k 0 → (w : List ℕ) → IsRoomVector rows w → AreAlike c (k + 1) w → ⊥
+    pub follow_low : {passed : List ℕ} → AreTops rows tops passed → get_or c k 0 ≤ get_or passed k 0 → (w : List ℕ) → IsRoomVector rows w → AreAlikeBelow (k + 1) c w → ⊥
     follow_low {passed} t low w r same =
         let b = a.all w r (λ j less. same j (omega arith)) in
         let e = same k (omega arith) in let p = passed_at t b k inside in omega arith
 
-    pub follow_high : get_or tops k 0 < get_or c k 0 → (w : List ℕ) → IsRoomVector rows w → AreAlike c (k + 1) w → ⊥
+    pub follow_high : get_or tops k 0 < get_or c k 0 → (w : List ℕ) → IsRoomVector rows w → AreAlikeBelow (k + 1) c w → ⊥
     follow_high high w r same =
         let b = a.all w r (λ j less. same j (omega arith)) in
         let e = same k (omega arith) in let p = top_at b k inside in omega arith
@@ -88,7 +88,7 @@ module _ {rows : List (List ℕ)} where
     }
 
   -- whom no vector follows none is above behind
-  pub none_behind : {c : List ℕ} {k j : ℕ} → ((w : List ℕ) → IsRoomVector rows w → AreAlike c (k + 1) w → ⊥) → k < j → NoneAt rows c j
+  pub none_behind : {c : List ℕ} {k j : ℕ} → ((w : List ℕ) → IsRoomVector rows w → AreAlikeBelow (k + 1) c w → ⊥) → k < j → NoneAt rows c j
   none_behind none less w r above = none w r (λ i h. above.alike i (omega arith))
 
 -- the persons below k are noted
@@ -110,7 +110,7 @@ note_one {rows} {c} {tops} {k} {risers} may a inside high g = record {
         (λ j other e less. g.noted j (omega arith) e)
 
 -- two vectors within tops that hold vectors above another are alike before the person
-pub above_alike : {rows : List (List ℕ)} {c tops v : List ℕ} {k : ℕ} → HoldAbove rows c k tops → IsVectorWithin rows tops v → (w : List ℕ) → IsVectorWithin rows tops w → AreAlike v k w
+pub above_alike : {rows : List (List ℕ)} {c tops v : List ℕ} {k : ℕ} → HoldAbove rows c k tops → IsVectorWithin rows tops v → (w : List ℕ) → IsVectorWithin rows tops w → AreAlikeBelow k v w
 above_alike a r w s j less = sym ((a.holds _ r).alike j less) ∙ (a.holds w s).alike j less
 
 -- v is smaller than w at a person below x, and alike before
@@ -118,17 +118,17 @@ pub record IsBeforeBy (x : ℕ) (v w : List ℕ) : Type 0 where
   pub at : ℕ
   pub early : at < x
   pub smaller : get_or v at 0 < get_or w at 0
-  pub alike : AreAlike v at w
+  pub alike : AreAlikeBelow at v w
 
 -- ranks are settled below x: of the vectors within the first tops, those within the later ones are alike below x, and others
 -- are greater at a person below x, and alike before
 pub record AreSettledTo (rows : List (List ℕ)) (first : List ℕ) (x : ℕ) (tops v : List ℕ) : Type 0 where
   pub lower : (w : List ℕ) → IsVectorWithin rows tops w → IsVectorWithin rows first w
-  pub alike : (w : List ℕ) → IsVectorWithin rows tops w → AreAlike v x w
+  pub alike : (w : List ℕ) → IsVectorWithin rows tops w → AreAlikeBelow x v w
   pub all : (w : List ℕ) → IsVectorWithin rows first w → IsVectorWithin rows tops w ⊎ IsBeforeBy x v w
 
 -- at the start
-pub settled_begins : {rows : List (List ℕ)} {first v : List ℕ} {x : ℕ} → ((w : List ℕ) → IsVectorWithin rows first w → AreAlike v x w) → AreSettledTo rows first x first v
+pub settled_begins : {rows : List (List ℕ)} {first v : List ℕ} {x : ℕ} → ((w : List ℕ) → IsVectorWithin rows first w → AreAlikeBelow x v w) → AreSettledTo rows first x first v
 settled_begins alike = record { lower = λ w r. r; alike = alike; all = λ w r. inl r }
 
 -- one more rank is settled: v is now u
@@ -156,11 +156,11 @@ settled_one {rows} {first} {tops} {after} {v} {u} {x} g here s = record {
     same : (j : ℕ) → j < x → get_or v j 0 ≡ get_or u j 0
     same = g.alike u (s.lower u here)
 
-    turn : (w : List ℕ) → IsVectorWithin rows tops w → AreAlike u x w
+    turn : (w : List ℕ) → IsVectorWithin rows tops w → AreAlikeBelow x u w
     turn w r j less = sym (same j less) ∙ g.alike w r j less
 
 -- a vector that is smaller at a person, and alike before, is before another
-pub is_before : (rows : List (List ℕ)) {v w : List ℕ} (k : ℕ) → k < length rows → get_or v k 0 < get_or w k 0 → AreAlike v k w → IsBefore (agents rows) v w
+pub is_before : (rows : List (List ℕ)) {v w : List ℕ} (k : ℕ) → k < length rows → get_or v k 0 < get_or w k 0 → AreAlikeBelow k v w → IsBefore (agents rows) v w
 is_before rows {v} {w} k less smaller alike = record {
   at = k;
   within = (let e = length-range_with_len 0 (length rows) in omega arith);
@@ -253,7 +253,7 @@ settled_at {rows} {before} {tops} {after} {v} {x} inside lower all least l fixed
 }
 
 -- who was noted as shut, and whoever is behind a person whom no vector follows
-pub noted_all : {rows : List (List ℕ)} {c : List ℕ} {risers : List Bool} (k : ℕ) → AreNotedUpTo rows c (k + 1) risers → ((w : List ℕ) → IsRoomVector rows w → AreAlike c (k + 1) w → ⊥)
+pub noted_all : {rows : List (List ℕ)} {c : List ℕ} {risers : List Bool} (k : ℕ) → AreNotedUpTo rows c (k + 1) risers → ((w : List ℕ) → IsRoomVector rows w → AreAlikeBelow (k + 1) c w → ⊥)
     → (j : ℕ) → j < length rows → get_or risers j false ≡ false → NoneAt rows c j
 noted_all {rows} {c} k g none j h e = elim (lt_or_le j (k + 1)) [
   | inl less ↦ g.noted j less e

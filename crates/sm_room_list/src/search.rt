@@ -3,9 +3,10 @@
 
 ghost use Rattle.std.specs.Prelude.{◌≡◌, ℕ, ◌+◌, ◌<◌, ◌≤◌, ◌⊎◌, true, false, List, length, slice_index, slice_index_or, IfOk, OnOk, MatchOption, IsTrue};
 ghost use Rattle.sm_lists.specs.Rows.{row};
+ghost use Rattle.sm_lists.specs.Orders.{AreAlikeBelow};
 ghost use Rattle.sm_room_list.specs.RoomVectors.{IsRoomVector};
 ghost use Rattle.sm_room_list.specs.Tops.{AreTops, IsVectorWithin};
-ghost use Rattle.sm_room_list.specs.Search.{AreAlike, NoneAt, HoldAlike, HoldAbove, IsHeld, IsLeastWithin, IsSettledAt};
+ghost use Rattle.sm_room_list.specs.Search.{NoneAt, HoldAlike, HoldAbove, IsHeld, IsLeastWithin, IsSettledAt};
 
 use crate::finding::vector_within;
 use crate::tops::Tops;
@@ -178,7 +179,7 @@ fn follow(market: &RoomMarket, last: &[u32], k: u32, tops: &mut Tops) -> bool
     ensures tops { AreTops market.now tops.new.tops.items tops.new.passed.items }
     ensures alike { result ≡ true → HoldAlike market.now last.now (k + 1) tops.new.tops.items }
     ensures none { result ≡ false → (w : List ℕ) → IsRoomVector market.now w
-        → ¬ AreAlike last.now (k + 1) w }
+        → ¬ AreAlikeBelow (k + 1) last.now w }
 {
     let rank = last[k as usize];
     let passed = tops.passed(k);
@@ -203,7 +204,7 @@ pub(crate) fn least_within(
     requires held { IsHeld market.now found.tops.tops.items found.tops.passed.items
         found.vector.items }
     requires alike { (w : List ℕ) → IsVectorWithin market.now found.tops.tops.items w
-        → AreAlike found.vector.items found.from w }
+        → AreAlikeBelow found.from found.vector.items w }
     ensures { IfOk result (λ v. IsLeastWithin market.now found.tops.tops.items v.items) }
 {
     let mut held = found;

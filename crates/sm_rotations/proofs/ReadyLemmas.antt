@@ -1,8 +1,8 @@
 -- The heap has what is exposed, turn after turn.
-use Rattle.std.proofs.Common.{◌≡◌, ◌≢◌, ℕ, ◌+◌, ◌<◌, ◌≤◌, inl, inr, arith, refl, sym, ap, ◌∙◌, List, length, Bool, true, false, not, slice_index_or, All}
+use Rattle.std.proofs.Common.{◌≡◌, ◌≢◌, ℕ, ◌+◌, ◌<◌, ◌≤◌, inl, inr, arith, sym, ap, ◌∙◌, List, length, true, false, not, slice_index_or, All}
 use Rattle.std.specs.Bool.{nat_eq}
 use Rattle.std.specs.declared.cmp.Reverse.{Reverse}
-use Rattle.std.proofs.lemmas.Bool.{eqb-true}
+use Rattle.std.proofs.lemmas.Bool.{eqb-true, false_from_ne_true}
 use Rattle.sm_lists.proofs.ResultLemmas.{same_bool}
 use Rattle.sm_market.specs.Lists.{Lists, row, IsMarket}
 use Rattle.sm_market.specs.Matching.{Places}
@@ -16,17 +16,13 @@ use Rattle.sm_rotations.proofs.TimesLemmas.{count_found, below_none, below_some,
 use Rattle.sm_rotations.proofs.TurnLemmas.{turned_exposed, turned_first}
 use Rattle.sm_rotations.proofs.PassedLemmas.{IsReadyOne, none_passed, passed_needs, ready_exposed, exposed_ready_one, all_passed, now_passed, still_passed, no_other_passed}
 
-false_of : (b : Bool) → (b ≡ true → ⊥) → b ≡ false
-false_of true out = absurd (out refl)
-false_of false out = refl
-
 module _ {l : Lists} (h : IsMarket l) {first : Places} {rotations : List (List (ℕ × ℕ))} (chain : IsCompleteChain l first rotations)
     {followers : List (List ℕ)} (f : AreFollowers l rotations (length rotations) followers) where
   -- no need is left over exactly where all needs are passed
   none_left : (m : Places) (k : ℕ) → k < length rotations → left_over l first rotations followers m k ≡ 0
       → (i : ℕ) → i < length rotations → IsNeededBy l (rotation_at rotations i) (rotation_at rotations k) → IsPassed l first rotations m i
   none_left m k g none i a need = by_contradiction (Decided-true (is_passed l first rotations m i)) (λ out.
-      let left = ap not (false_of (is_passed l first rotations m i) out) in
+      let left = ap not (false_from_ne_true (is_passed l first rotations m i) out) in
       omega (arith, none, below_some followers k (λ i. not (is_passed l first rotations m i)) (length rotations) i a left, f.all i k g a need))
 
   all_left : (m : Places) (k : ℕ) → ((i : ℕ) → i < length rotations → IsNeededBy l (rotation_at rotations i) (rotation_at rotations k) → IsPassed l first rotations m i)
@@ -46,7 +42,7 @@ module _ {l : Lists} (h : IsMarket l) {first : Places} {rotations : List (List (
     one_each = c.one_each ∙ f.one_each;
     counts = λ k g. c.each k (omega (arith, f.one_each)) ∙ ap (times_below (λ _. true) followers k) f.one_each
         ∙ below_alike followers k (λ _. true) (λ i. not (is_passed l first rotations first i)) (length rotations) (λ i a.
-        sym (ap not (false_of (is_passed l first rotations first i) (none_passed h chain i a))));
+        sym (ap not (false_from_ne_true (is_passed l first rotations first i) (none_passed h chain i a))));
     entries = r.entries rotations leads;
     once = λ k g _ e. r.once k g e;
     passed = λ k g e. absurd (none_passed h chain k g e);
@@ -107,7 +103,7 @@ module _ {l : Lists} (h : IsMarket l) {first : Places} {rotations : List (List (
 
       fewer : (j : ℕ) → left_over l first rotations followers m j ≡ left_over l first rotations followers (eliminated l m (rotation_at rotations k)) j + times (row followers k) j
       fewer j = below_apart followers j (λ i. not (is_passed l first rotations m i)) (λ i. not (is_passed l first rotations (eliminated l m (rotation_at rotations k)) i)) (length rotations) k g
-          (ap not (false_of (is_passed l first rotations m k) (in_heap_out k g some)))
+          (ap not (false_from_ne_true (is_passed l first rotations m k) (in_heap_out k g some)))
           (ap not (now_passed h chain s k g x))
           (λ i a ne. ap not (same_bool (is_passed l first rotations m i) (is_passed l first rotations (eliminated l m (rotation_at rotations k)) i) (still_passed h chain s k g x i a) (no_other_passed h chain s k g x i a ne)))
 

@@ -4,7 +4,7 @@ use Rattle.sm_text.specs.Plain.{is_plain, is_plain_byte}
 use Rattle.sm_text.specs.Refusal.{name_of_refusal}
 use Rattle.sm_text.specs.declared.refusal.RefusalKind.{RefusalKind}
 use Rattle.sm_text.specs.declared.refusal.RefusalKind.TheVariants as kind
-use Rattle.sm_report.proofs.DecimalLemmas.{first_true, second_true}
+use Rattle.sm_lists.proofs.BoolLemmas.{first_true, second_true}
 use Rattle.sm_report.proofs.FreeLines.{number_plain, both_plain}
 use Rattle.sm_answer.specs.Giving.{PutsNext}
 use Rattle.sm_serve.specs.Texts.{with_detail, plain_refusal, usage_line, refused_line, are_plain}

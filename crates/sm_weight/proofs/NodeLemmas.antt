@@ -1,7 +1,7 @@
 -- The nodes at which a proposer enters a level and leaves it, read of its moves.
 use Rattle.std.proofs.Common.{◌≡◌, ℕ, zero, suc, ◌<◌, ◌≤◌, inl, inr, arith, refl, sym, ap, ◌∙◌, Bool, true, List, [], length, Option, None, Some, slice_index, slice_index_or, eqb-true, eq-eqb, ne_eqb, lt-ltb}
 use Rattle.std.specs.List.{position_or_len}
-use Rattle.std.proofs.lemmas.Bool.{false≢true, ltb-true, and_from, false_from_ne_true, not_from_false}
+use Rattle.std.proofs.lemmas.Bool.{false≢true, ltb-true, and_from, false_from_ne_true, not_from_false, cases_Bool}
 use Rattle.std.proofs.lemmas.List.{get_or_read}
 use Rattle.std.proofs.lemmas.List.Sums.{position_or_len_is}
 use Rattle.sm_lists.proofs.Counting.{Decided-eq, Decided-and, Decided-not, search_below, lt_or_le, eq_or_ne}
@@ -14,7 +14,7 @@ use Rattle.sm_theory.specs.Vectors.{AreLevels}
 use Rattle.sm_theory.specs.Conditions.{level_at, has_level, moves_to, moves_off, entry_node, exit_node}
 use Rattle.sm_theory.proofs.Bridge.Chain.{stage_stable}
 use Rattle.sm_theory.proofs.Chains.Sets.{moves_follow}
-use Rattle.sm_theory.proofs.Net.Tests.{true_or_false, and_parts, not_parts}
+use Rattle.sm_theory.proofs.Net.Tests.{and_parts, not_parts}
 use Rattle.sm_poset.specs.Moves.{rotation_of, place_to, AreMovesOf, GoDown}
 use Rattle.sm_poset.proofs.ChainLemmas.{move_stands}
 use Rattle.sm_weight.specs.Spans.{level_to, place_before, BeginsAt, IsFirstTo, IsEntryNode, LeadsOff, IsExit}
@@ -106,7 +106,7 @@ module _ {l : Lists} (h : IsMarket l) {first : Places} {rotations : List (List (
 
     -- the node at which the moves come to the level is the entry of the net
     pub entry_is : IsEntryNode (row levels p) (held first.proposers p) moves level sink node → node ≡ entry_node l levels first rotations p level
-    entry_is w = elim (true_or_false (has_level levels p level (held first.proposers p))) [
+    entry_is w = elim (cases_Bool (has_level levels p level (held first.proposers p))) [
       | inl e ↦ rw e (w.begins (begins_of levels p level (held first.proposers p) e))
       | inr e ↦ rw e (late (λ b. false≢true (sym e ∙ of_begins levels p level (held first.proposers p) b)))
     ]

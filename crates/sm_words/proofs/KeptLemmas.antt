@@ -4,8 +4,9 @@ use Rattle.std.specs.Prelude.{not, is_some, ◌&&◌}
 use Rattle.std.specs.List.{list_all}
 use Rattle.std.specs.Option.{option_and_then, option_map_or}
 use Rattle.std.specs.Str.{bytes_eq}
-use Rattle.std.proofs.lemmas.Bool.{false≢true}
+use Rattle.std.proofs.lemmas.Bool.{false≢true, and_from}
 use Rattle.std.proofs.lemmas.Option.{none-some, same_Some}
+use Rattle.sm_lists.proofs.BoolLemmas.{first_true, second_true}
 use Rattle.sm_report.specs.Meanings.{look_up, sides, measures, limit_named}
 use Rattle.sm_report.specs.Vectors.{vector_in}
 use Rattle.sm_report.proofs.HeadInverses.{EachRow, looked_up}
@@ -35,31 +36,22 @@ name_unknown c word name fits same is =
       by_name false found fits e = false≢true fits
       by_name true found fits e = false≢true (ap (λ found. option_map_or (λ operand. is_value operand (text_in word)) found false) (sym e) ∙ fits)
 
--- both are true
-and_left : (a b : Bool) → (a && b) ≡ true → a ≡ true
-and_left true b e = refl
-and_left false b e = e
-
-and_right : (a b : Bool) → (a && b) ≡ true → b ≡ true
-and_right true b e = e
-and_right false b e = absurd (false≢true e)
-
 -- where all words are operands of a command, the text of a name is a value of the operand that has it
 given_right : (c : Command) (name : List ℕ) (o : Operand) → look_up (operands_of c) name ≡ Some o → (words : List (List ℕ)) → list_all (is_operand c) words ≡ true → (text : List ℕ) → look_up (given_by words) name ≡ Some text → is_value o text ≡ true
 given_right c name o is [] all text e = absurd (none-some text e)
 given_right c name o is (word ∷ words) all text e =
-    by_name (given_right c name o is words (and_right (is_operand c word) (list_all (is_operand c) words) all) text) (bytes_eq name (name_in word)) refl e where
+    by_name (given_right c name o is words (second_true (is_operand c word) (list_all (is_operand c) words) all) text) (bytes_eq name (name_in word)) refl e where
       by_name : (look_up (given_by words) name ≡ Some text → is_value o text ≡ true) → (t : Bool) → bytes_eq name (name_in word) ≡ t → cond t (Some (text_in word)) (look_up (given_by words) name) ≡ Some text → is_value o text ≡ true
-      by_name deep true same e = subst (λ t. is_value o t ≡ true) (same_Some _ _ e) (name_known c word name o (and_left (is_operand c word) (list_all (is_operand c) words) all) same is)
+      by_name deep true same e = subst (λ t. is_value o t ≡ true) (same_Some _ _ e) (name_known c word name o (first_true (is_operand c word) (list_all (is_operand c) words) all) same is)
       by_name deep false other e = deep e
 
 -- and a name that the command doesn't know has none
 pub given_none : (c : Command) (name : List ℕ) → look_up (operands_of c) name ≡ None → (words : List (List ℕ)) → list_all (is_operand c) words ≡ true → look_up (given_by words) name ≡ None
 given_none c name is [] all = refl
 given_none c name is (word ∷ words) all =
-    by_name (given_none c name is words (and_right (is_operand c word) (list_all (is_operand c) words) all)) (bytes_eq name (name_in word)) refl where
+    by_name (given_none c name is words (second_true (is_operand c word) (list_all (is_operand c) words) all)) (bytes_eq name (name_in word)) refl where
       by_name : look_up (given_by words) name ≡ None → (t : Bool) → bytes_eq name (name_in word) ≡ t → cond t (Some (text_in word)) (look_up (given_by words) name) ≡ None
-      by_name deep true same = absurd (name_unknown c word name (and_left (is_operand c word) (list_all (is_operand c) words) all) same is)
+      by_name deep true same = absurd (name_unknown c word name (first_true (is_operand c word) (list_all (is_operand c) words) all) same is)
       by_name deep false other = deep
 
 -- the text of a name where one more is given
@@ -180,12 +172,8 @@ module _ (c : Command) (words : List (List ℕ)) (word : List ℕ) where
 pub follows : (c : Command) (words : List (List ℕ)) (word : List ℕ) → list_all (is_operand c) words ≡ true → may_follow c words word ≡ true → list_all (is_operand c) (words ++ word ∷ []) ≡ true
 follows c words word all fits = go words all where
   is : is_operand c word ≡ true
-  is = and_left (is_operand c word) (not (is_some (look_up (given_by words) (name_in word)))) fits
-
-  both : (a b : Bool) → a ≡ true → b ≡ true → (a && b) ≡ true
-  both true b e f = f
-  both false b e f = e
+  is = first_true (is_operand c word) (not (is_some (look_up (given_by words) (name_in word)))) fits
 
   go : (ws : List (List ℕ)) → list_all (is_operand c) ws ≡ true → list_all (is_operand c) (ws ++ word ∷ []) ≡ true
-  go [] all = both (is_operand c word) true is refl
-  go (w ∷ ws) all = both (is_operand c w) (list_all (is_operand c) (ws ++ word ∷ [])) (and_left (is_operand c w) (list_all (is_operand c) ws) all) (go ws (and_right (is_operand c w) (list_all (is_operand c) ws) all))
+  go [] all = and_from (is_operand c word) true is refl
+  go (w ∷ ws) all = and_from (is_operand c w) (list_all (is_operand c) (ws ++ word ∷ [])) (first_true (is_operand c w) (list_all (is_operand c) ws) all) (go ws (second_true (is_operand c w) (list_all (is_operand c) ws) all))

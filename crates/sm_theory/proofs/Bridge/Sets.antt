@@ -1,8 +1,9 @@
 -- The matching of a set over lists is the one of Core.
-use Rattle.std.proofs.Common.{◌≡◌, ℕ, zero, suc, ◌<◌, ◌≤◌, ◌⊎◌, inl, inr, arith, refl, sym, ap, ◌∙◌, List, length, Option, Some, unwrap_or, Bool, true, false, lt-ltb, le-ltb, max, ◌&&◌, if◌then◌else◌}
+use Rattle.std.proofs.Common.{◌≡◌, ℕ, zero, suc, ◌<◌, ◌≤◌, ◌⊎◌, inl, inr, arith, refl, sym, ap, ◌∙◌, List, length, Option, Some, unwrap_or, Bool, false, lt-ltb, le-ltb, max, ◌&&◌, if◌then◌else◌}
 use Rattle.std.specs.Option.{option_map}
 use Rattle.std.proofs.lemmas.List.FromFn.{length-map-range_with_len}
 use Rattle.std.proofs.lemmas.Option.{same_Some, none-some}
+use Rattle.std.proofs.lemmas.Bool.{false_from_ne_true}
 use Rattle.sm_lists.proofs.RangeLemmas.{greatest_more}
 use Rattle.sm_lists.proofs.ResultLemmas.{cond-and_false}
 use Rattle.sm_market.specs.Lists.{Lists, row, place_of, IsMarket}
@@ -48,11 +49,7 @@ module _ {l : Lists} (h : IsMarket l) {first : Places} {rotations : List (List (
       (cond-and_false (is_member set n) _ _)
 
   worst_not : (p i n : ℕ) → (IsMember set n → ⊥) → worst_place l rotations set p i (suc n) ≡ worst_place l rotations set p i n
-  worst_not p i n out = let e : is_member set n ≡ false = is_false (is_member set n) out in worst_more l rotations set p i n ∙ rw e refl
-    where
-      is_false : (b : Bool) → (b ≡ true → ⊥) → b ≡ false
-      is_false true out = absurd (out refl)
-      is_false false out = refl
+  worst_not p i n out = let e : is_member set n ≡ false = false_from_ne_true (is_member set n) out in worst_more l rotations set p i n ∙ rw e refl
 
   -- a member among the first n that moves p to where it stands in the end
   record Last (p i n : ℕ) : Type 0 where

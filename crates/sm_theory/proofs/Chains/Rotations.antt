@@ -1,12 +1,12 @@
 -- The laws on rotations and on closed sets.
-use Rattle.std.proofs.Common.{◌≡◌, ℕ, ◌<◌, ◌≤◌, inl, inr, arith, refl, sym, ap, ◌∙◌, List, length, map, Bool, true, false, ext_get_or, true≢false}
+use Rattle.std.proofs.Common.{◌≡◌, ℕ, ◌<◌, ◌≤◌, inl, inr, arith, sym, ap, ◌∙◌, List, length, map, Bool, false, ext_get_or}
 use Rattle.std.specs.List.{range_with_len}
 use Rattle.std.proofs.lemmas.List.FromFn.{get_or-map-range_with_len, length-map-range_with_len}
 use Rattle.sm_lists.proofs.ResultLemmas.{same_bool}
 use Rattle.sm_market.specs.Lists.{Lists, reversed_lists}
 use Rattle.sm_market.specs.Matching.{Places, standing, reversed}
 use Rattle.sm_market.specs.Stable.{IsStable}
-use Rattle.sm_lists.proofs.Counting.{Decided}
+use Rattle.sm_lists.proofs.Counting.{bool_of, holds_of, of_holds}
 use Rattle.sm_market.proofs.CoreLaws.{opposed, opposed'}
 use Rattle.sm_market.proofs.Bridge.{stand_of, stable_of, IsMarket-reversed, IsStable-reversed}
 use Rattle.sm_theory.specs.Rotations.{proposer_at, IsExposed}
@@ -56,21 +56,6 @@ best_is_unique l m n h = (
 -- a predecessor stands earlier in the chain
 pub predecessor_is_earlier : PredecessorIsEarlier
 predecessor_is_earlier l first rotations i j h chain a b need = needs_lower (way_of (chain_of h chain)) i j a b (needs_of h need)
-
--- a decision as a `Bool`
-bool_of : {P : Type 0} → Decided P → Bool
-bool_of (inl _) = true
-bool_of (inr _) = false
-
-holds_of : {P : Type 0} (d : Decided P) → bool_of d ≡ true → P
-unfolding bool_of
-holds_of (inl p) e = p
-holds_of (inr p) e = absurd (true≢false (sym e))
-
-of_holds : {P : Type 0} (d : Decided P) → P → bool_of d ≡ true
-unfolding bool_of
-of_holds (inl p) _ = refl
-of_holds (inr p) x = absurd (p x)
 
 -- the closed sets and the stable matchings correspond one to one
 pub sets_are_matchings : SetsAreMatchings

@@ -1,7 +1,7 @@
 -- Eliminating an exposed rotation leaves a stable matching.
 use Rattle.std.proofs.Common.{◌≡◌, ℕ, ◌<◌, ◌≤◌, ◌⊎◌, inl, inr, arith, refl, sym, ap, ◌∙◌}
-use Rattle.sm_lists.proofs.Counting.{less_same_more}
-use Rattle.sm_market.proofs.Core.{Sides, Stand, Fit, Stable, Pair, pair_of', pair_at, one_proposer, one_reviewer}
+use Rattle.sm_lists.proofs.Counting.{lt_or_le, eq_or_ne, less_same_more}
+use Rattle.sm_market.proofs.Core.{Sides, Stand, Fit, Stable, Pair, pair_of', pair_at, pair_at', same_place, one_proposer, one_reviewer}
 use Rattle.sm_theory.proofs.Core.Seats.{Seats, NoTwice, fit_of_seats, seat_of, Seats-seat_of}
 use Rattle.sm_theory.proofs.Core.Cycle.{Cycle, turn, turn_in, turn_once, target, Succ, Exposed, Moves, moves_or_not, gives_or_not, follows}
 
@@ -159,3 +159,57 @@ Elim-eliminate {s} {m} {c} x = record { moved = λ i h. moved i h (moves_or_not 
     still : (p : ℕ) → ((i : ℕ) → i < c.size → c.who i ≡ p → ⊥) → (d : Moves c p ⊎ ((j : ℕ) → j < c.size → c.who j ≡ p → ⊥)) → after_go (λ w. s.place p (target c w.at)) (m.a p) d ≡ m.a p
     still p none (inl w) = absurd (none w.at w.below w.holds)
     still p none (inr _) = refl
+
+-- c is eliminated from m, which leaves k; d is exposed there, c moves nobody of d, and it moves no reviewer past anybody of d
+module _ {s : Sides} {m k : Stand} {c d : Cycle} (f : Fit s m) (x : Exposed s m c) (e : Elim s m c k) (y : Exposed s k d)
+    (out : (i j : ℕ) → i < d.size → j < c.size → c.who j ≡ d.who i → ⊥)
+    (over : (i j : ℕ) → i < d.size → j < c.size → s.place (d.who i) (target c j) < s.len (d.who i) → s.rank (target c j) (c.who j) < s.rank (target c j) (d.who i) → s.rank (target c j) (d.who i) < m.b (target c j) → ⊥) where
+  still : (i : ℕ) → i < d.size → k.a (d.who i) ≡ m.a (d.who i)
+  still i h = e.still (d.who i) (λ j g is. out i j h g is)
+
+  pair : (i : ℕ) → i < d.size → Pair s m (d.who i) (d.has i)
+  pair i h = same_place f (y.paired i h) (still i h)
+
+  -- a reviewer of c that would not take somebody of d now would not have taken it before
+  refuses_in : (i j : ℕ) → i < d.size → j < c.size → m.a (d.who i) < s.place (d.who i) (target c j) → s.place (d.who i) (target c j) < s.len (d.who i)
+      → k.b (target c j) ≤ s.rank (target c j) (d.who i) → m.b (target c j) ≤ s.rank (target c j) (d.who i)
+  refuses_in i j h g behind on short = elim (lt_or_le (s.rank (target c j) (d.who i)) (m.b (target c j))) [
+    | inr more ↦ more
+    | inl less ↦
+        let new = new_pair f x e j g in
+        absurd (elim (eq_or_ne (s.rank (target c j) (d.who i)) (k.b (target c j))) [
+          | inl same ↦
+              let v : Pair s k (d.who i) (target c j) = pair_at' (d.who i) (target c j) (elim_fit f x e) new.matched' same in
+              omega (arith, v.place_is, still i h, behind)
+          | inr ne ↦ over i j h g on (omega (arith, new.rank_is, short)) less
+        ])
+  ]
+
+  -- and so is it with any reviewer
+  refuses : (i q : ℕ) → i < d.size → m.a (d.who i) < s.place (d.who i) q → s.place (d.who i) q < s.len (d.who i) → k.b q ≤ s.rank q (d.who i) → m.b q ≤ s.rank q (d.who i)
+  refuses i q h behind on short = elim (gives_or_not c q) [
+    | inr none ↦ omega (arith, short, keeps f x e q none)
+    | inl w ↦
+        let v = follows c.size w.at w.below in
+        let is : target c v.at ≡ q = ap c.has v.is ∙ w.holds in
+        let there : m.a (d.who i) < s.place (d.who i) q → s.place (d.who i) q < s.len (d.who i) → k.b q ≤ s.rank q (d.who i) → m.b q ≤ s.rank q (d.who i) = rw is at (refuses_in i v.at h v.below) in
+        there behind on short
+  ]
+
+  -- so d was exposed before
+  pub exposed_before : Exposed s m d
+  exposed_before = record {
+    some = y.some;
+    distinct = y.distinct;
+    paired = pair;
+    next = λ i h.
+        let n = y.next i h in
+        let v = pair (turn d.size i) (turn_in d.size i h) in
+        record {
+          on = n.on;
+          behind = omega (arith, n.behind, still i h);
+          takes = omega (arith, n.takes, never_worse f x e (target d i));
+          first = λ q a b. refuses i q h a (omega (arith, b, n.on)) (n.first q (omega (arith, a, still i h)) b);
+          matched = v.matched';
+        };
+  }

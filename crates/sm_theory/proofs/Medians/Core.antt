@@ -1,6 +1,6 @@
 -- The median of closed sets, over two sides without lists.
-use Rattle.std.proofs.Common.{◌≡◌, ℕ, ◌+◌, ◌-◌, ◌<◌, ◌≤◌, ◌⊎◌, inl, inr, arith, refl, Bool, true, false, nat_lt, nat_le, List, map, length, All, count_by}
-use Rattle.std.proofs.lemmas.Bool.{ltb-true, le-leb}
+use Rattle.std.proofs.Common.{◌≡◌, ℕ, ◌+◌, ◌-◌, ◌<◌, ◌≤◌, inl, inr, arith, refl, Bool, true, false, nat_lt, nat_le, List, map, length, All, count_by}
+use Rattle.std.proofs.lemmas.Bool.{ltb-true, le-leb, cases_Bool}
 use Rattle.sm_lists.proofs.Counting.{Decided, Decided-and, First, search_below, lt_or_le, eq_or_ne}
 use Rattle.sm_market.proofs.Core.{Sides, Stand}
 use Rattle.sm_theory.proofs.Core.Cycle.{Cycle, Moves}
@@ -11,11 +11,6 @@ use Rattle.sm_theory.proofs.Medians.Counts.{count_map, count_cover, count_apart,
 -- a set that a test tells, and what is its matching
 abbrev pub Passing : (ℕ → Bool) → ℕ → Type 0
 Passing test k = test k ≡ true
-
--- a test is passed or it isn't
-is_passed : (b : Bool) → (b ≡ true) ⊎ (b ≡ false)
-is_passed true = inl refl
-is_passed false = inr refl
 
 decided_false : (b : Bool) → Decided (b ≡ false)
 decided_false true = inr (λ e. grind arith)
@@ -59,7 +54,7 @@ module _ {s : Sides} {t : ℕ} {M : ℕ → Stand} {c : ℕ → Cycle} (ch : Cha
       by_seldom : (x : X) → IsSetOf (test x) (n x) → m.a p < (n x).a p → (k : ℕ) × (k < t) × (test x k ≡ true) × Moves (c k) p × (many k ≡ false)
       by_seldom x g worse = elim (g.of.attained p) [
         | inl e ↦ absurd (omega (arith, of.low p, e))
-        | inr w ↦ elim (is_passed (many w.at)) [
+        | inr w ↦ elim (cases_Bool (many w.at)) [
           | inl member ↦ absurd (omega (arith, of.reach p w.at w.below member w.moves, w.is))
           | inr out ↦ (w.at, w.below, w.member, w.moves, out)
         ]

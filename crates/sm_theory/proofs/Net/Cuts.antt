@@ -1,7 +1,7 @@
 -- The sets that no unbounded edge leaves are the closed sets whose matching is allowed.
 use Rattle.std.proofs.Common.{◌≡◌, ◌≢◌, ℕ, zero, suc, ◌<◌, ◌⊎◌, inl, inr, arith, refl, sym, ap, ◌∙◌, Bool, true, false, not, ◌&&◌, ◌||◌, List, length, eqb, eqb-true, eq-eqb, ℤ, slice_index, slice_index_or}
 use Rattle.std.specs.List.{list_any, position_or_len}
-use Rattle.std.proofs.lemmas.Bool.{false≢true, false_from_ne_true, and_from, or_left, or_right}
+use Rattle.std.proofs.lemmas.Bool.{false≢true, false_from_ne_true, and_from, or_left, or_right, cases_Bool}
 use Rattle.std.proofs.lemmas.List.{get_or_past}
 use Rattle.std.proofs.lemmas.List.Folds.{list_any_at}
 use Rattle.std.proofs.lemmas.List.Sums.{prefix_len-le-length}
@@ -16,7 +16,7 @@ use Rattle.sm_theory.specs.Conditions.{has_level, moves_to, moves_off, entry_nod
 use Rattle.sm_theory.specs.LawsFlows.{CutsAreAllowed}
 use Rattle.sm_theory.proofs.Bridge.Places.{row_past}
 use Rattle.sm_theory.proofs.Chains.Rotations.{predecessor_is_earlier}
-use Rattle.sm_theory.proofs.Net.Tests.{true_or_false, and_parts, or_parts, not_same, Passes, some_passes}
+use Rattle.sm_theory.proofs.Net.Tests.{and_parts, or_parts, not_same, Passes, some_passes}
 use Rattle.sm_theory.proofs.Net.Whole.{whole_net_of, net_is_whole, whole_across}
 use Rattle.sm_theory.proofs.Net.Entries.{entry_inside, exit_outside, level_between}
 
@@ -59,7 +59,7 @@ module _ (l : Lists) (levels : List (List ℕ)) (weights : List (List ℤ)) (for
   edge_of i k apart e = and_from (not (eqb i (suc k))) (leads_to_need needs i (suc k) || rest_edge i (suc k)) (not_same i (suc k) apart) e
 
   entry_in_range : (c : ℕ × ℕ) → entry c < suc (sink_of net)
-  entry_in_range c = go (true_or_false (has_level levels c.0 c.1 (held first.proposers c.0)))
+  entry_in_range c = go (cases_Bool (has_level levels c.0 c.1 (held first.proposers c.0)))
     where
       go : (has_level levels c.0 c.1 (held first.proposers c.0) ≡ true) ⊎ (has_level levels c.0 c.1 (held first.proposers c.0) ≡ false) → entry c < suc (sink_of net)
       go (inl e) = rw e (omega arith)
@@ -109,7 +109,7 @@ module _ (l : Lists) (levels : List (List ℕ)) (weights : List (List ℤ)) (for
     sink_out one = get_or_past set (length rotations) false (omega (arith, one))
 
     in_or_out : (n : ℕ) → (is_in set n ≡ false → ⊥) → is_in set n ≡ true
-    in_or_out n h = elim (true_or_false (is_in set n)) [ inl e ↦ e | inr e ↦ absurd (h e) ]
+    in_or_out n h = elim (cases_Bool (is_in set n)) [ inl e ↦ e | inr e ↦ absurd (h e) ]
 
     apart_of : (i j : ℕ) → is_in set i ≡ true → is_in set j ≡ false → i ≢ j
     apart_of i j p q e = false≢true (sym q ∙ ap (is_in set) (sym e) ∙ p)

@@ -1,7 +1,7 @@
 -- When a proposer has a level in the matching of a closed set: its entry to the level lies inside, and its exit outside.
 use Rattle.std.proofs.Common.{◌≡◌, ◌≢◌, ℕ, zero, suc, ◌<◌, ◌≤◌, ◌⊎◌, inl, inr, arith, refl, sym, ap, ◌∙◌, Bool, true, false, List, [], length, Option, None, Some, eqb-true, eq-eqb, ne_eqb, lt-ltb, le-ltb, nat_lt}
 use Rattle.std.specs.List.{position_or_len}
-use Rattle.std.proofs.lemmas.Bool.{false≢true, and_from, false_from_ne_true, not_from_false}
+use Rattle.std.proofs.lemmas.Bool.{false≢true, and_from, false_from_ne_true, not_from_false, cases_Bool}
 use Rattle.std.proofs.lemmas.List.{get_or_past}
 use Rattle.sm_market.specs.Lists.{Lists, row, place_of, IsMarket}
 use Rattle.sm_market.specs.Matching.{Places, held, standing}
@@ -19,7 +19,7 @@ use Rattle.sm_theory.proofs.Bridge.Places.{row_past}
 use Rattle.sm_theory.proofs.Bridge.Rotation.{cycle_of, pair_at_is, no_pair}
 use Rattle.sm_theory.proofs.Bridge.Chain.{chain_of, stage_stable, closed_of}
 use Rattle.sm_theory.proofs.Bridge.Sets.{set_is_of, set_stable}
-use Rattle.sm_theory.proofs.Net.Tests.{true_or_false, and_parts, not_parts, first_before, first_passes}
+use Rattle.sm_theory.proofs.Net.Tests.{and_parts, not_parts, first_before, first_passes}
 
 module _ {l : Lists} (h : IsMarket l) {first : Places} {rotations : List (List (ℕ × ℕ))} (chain : IsCompleteChain l first rotations) where
   -- where p stands at a stage, and whether a rotation moves it
@@ -167,7 +167,7 @@ module _ {l : Lists} (h : IsMarket l) {first : Places} {rotations : List (List (
 
       -- who has the level has its entry to it inside
       pub entry_inside : HasLevel levels (matching_of l first rotations set) p level → is_in set (entry_node l levels first rotations p level) ≡ true
-      entry_inside w = go (true_or_false (has_level levels p level (held first.proposers p)))
+      entry_inside w = go (cases_Bool (has_level levels p level (held first.proposers p)))
         where
           v : Has
           v = has_of w
@@ -239,7 +239,7 @@ module _ {l : Lists} (h : IsMarket l) {first : Places} {rotations : List (List (
               }
 
           start : Start
-          start = elim (true_or_false (has_level levels p level (held first.proposers p))) [
+          start = elim (cases_Bool (has_level levels p level (held first.proposers p))) [
             | inl e ↦ begins (held first.proposers p) refl e
             | inr e ↦ comes (rw e at entry)
           ]

@@ -5,11 +5,6 @@ use Rattle.std.proofs.lemmas.Bool.{false≢true, not_from_false}
 use Rattle.std.proofs.lemmas.List.Sums.{passes_at_first, fails_before_first}
 use Rattle.sm_lists.proofs.Counting.{Decided, lt_or_le, First, search_below}
 
--- a test passes or fails
-pub true_or_false : (b : Bool) → (b ≡ true) ⊎ (b ≡ false)
-true_or_false true = inl refl
-true_or_false false = inr refl
-
 -- where two tests pass together, each passes
 pub and_parts : (a b : Bool) → (a && b) ≡ true → (a ≡ true) × (b ≡ true)
 and_parts true b e = (refl, e)

@@ -2,7 +2,7 @@
 use Rattle.std.proofs.Common.{◌≡◌, ◌≢◌, ℕ, zero, suc, ◌+◌, ◌-◌, ◌*◌, ◌<◌, ◌≤◌, ◌⊎◌, inl, inr, arith, refl, sym, ap, ◌∙◌, Bool, true, false, not, List, length, map, Option, None, Some}
 use Rattle.std.specs.List.{range_with_len}
 use Rattle.std.specs.Option.{option_map}
-use Rattle.std.proofs.lemmas.Bool.{false≢true, not_from_false}
+use Rattle.std.proofs.lemmas.Bool.{false≢true, not_from_false, not-true, not-false}
 use Rattle.std.proofs.lemmas.List.{get_or_past}
 use Rattle.std.proofs.lemmas.List.FromFn.{get_or-map-range_with_len, length-map-range_with_len}
 use Rattle.std.proofs.lemmas.Option.{same_Some, none-some}
@@ -65,14 +65,6 @@ odd_apart size k e h = elim (eq_or_ne (suc k) size) [
     other true e = false≢true e
     other false e = false≢true (sym e)
 
-flip_true : (b : Bool) → not b ≡ true → b ≡ false
-flip_true true e = absurd (false≢true e)
-flip_true false e = refl
-
-flip_false : (b : Bool) → not b ≡ false → b ≡ true
-flip_false true e = refl
-flip_false false e = sym e
-
 partner_of : (size k j : ℕ) → k < size → partner size k ≡ Some j → Partner size k j
 unfolding partner step_of is_odd
 partner_of size k j h e = go (is_odd size) (is_odd k) refl refl k refl e
@@ -91,12 +83,12 @@ partner_of size k j h e = go (is_odd size) (is_odd k) refl refl k refl e
     go false true p q (suc m) x f =
         let y : m ≡ j = same_Some _ _ f in
         let z : k ≡ suc j = omega arith in
-        let even : is_odd j ≡ false = flip_true (is_odd j) (ap is_odd (sym z) ∙ q) in
+        let even : is_odd j ≡ false = not-true (is_odd j) (ap is_odd (sym z) ∙ q) in
         record { below = omega arith; back = rw (p, even) (ap Some (sym z)); near = inr z }
     go true false p q (suc m) x f =
         let y : m ≡ j = same_Some _ _ f in
         let z : k ≡ suc j = omega arith in
-        let odd : is_odd j ≡ true = flip_false (is_odd j) (ap is_odd (sym z) ∙ q) in
+        let odd : is_odd j ≡ true = not-false (is_odd j) (ap is_odd (sym z) ∙ q) in
         record { below = omega arith; back = rw (p, odd) (ap Some (sym z)); near = inr z }
 
 no_partner : (size k : ℕ) → partner size k ≡ None → (is_odd size ≡ true) × (k ≡ 0)

@@ -7,6 +7,7 @@ use Rattle.sm_market.specs.Lists.{Lists, row, entry, place_of, AreMutual, IsMark
 use Rattle.sm_market.specs.Matching.{Places, held, standing, AreHeldInTurn, IsMatching}
 use Rattle.sm_market.specs.Stable.{IsStable, IsProposersBest}
 use Rattle.sm_lists.proofs.Counting.{lt_or_le, eq_or_ne}
+use Rattle.sm_lists.proofs.BoolLemmas.{first_true, second_true}
 use Rattle.sm_market.proofs.Bridge.{held_cases, standing-none}
 use Rattle.sm_market.proofs.LawsProved.{same_agents}
 use Rattle.sm_theory.specs.Rotations.{IsSuccessor, IsExposed, proposer_at, reviewer_at, target_at}
@@ -19,22 +20,12 @@ abbrev pub all_below : ℕ → (ℕ → Bool) → Bool
 all_below zero f = true
 all_below (suc n) f = all_below n f && f n
 
--- where two tests pass together, the first passes
-pub and_left : (a b : Bool) → (a && b) ≡ true → a ≡ true
-and_left true b e = refl
-and_left false b e = e
-
--- and the second passes
-pub and_right : (a b : Bool) → (a && b) ≡ true → b ≡ true
-and_right true b e = e
-and_right false b e = grind arith
-
 -- where all below n pass, each passes
 pub passes : (n : ℕ) (f : ℕ → Bool) → all_below n f ≡ true → (i : ℕ) → i < n → f i ≡ true
 passes zero f e i h = absurd (omega arith)
 passes (suc n) f e i h = elim (eq_or_ne i n) [
-  | inl x ↦ ap f x ∙ and_right (all_below n f) (f n) e
-  | inr x ↦ passes n f (and_left (all_below n f) (f n) e) i (omega arith)
+  | inl x ↦ ap f x ∙ second_true (all_below n f) (f n) e
+  | inr x ↦ passes n f (first_true (all_below n f) (f n) e) i (omega arith)
 ]
 
 -- where a test's opposite passes, it doesn't
@@ -53,9 +44,9 @@ lists_test rows others = all_below (length rows) (λ a. all_below (length (row r
 
 lists_pass : (rows others : List (List ℕ)) → lists_test rows others ≡ true → AreMutual rows others
 lists_pass rows others e = record {
-  in_range = λ a i h. ltb-true _ _ (and_left _ _ (test a i h));
-  distinct = λ a i j h g x. not_true _ (passes j (λ k. not (eqb (entry rows a k) (entry rows a j))) (and_right _ _ (and_right _ _ (test a j g))) i h) (eq-eqb _ _ x);
-  returned = λ a i h. ltb-true _ _ (and_left _ _ (and_right _ _ (test a i h)));
+  in_range = λ a i h. ltb-true _ _ (first_true _ _ (test a i h));
+  distinct = λ a i j h g x. not_true _ (passes j (λ k. not (eqb (entry rows a k) (entry rows a j))) (second_true _ _ (second_true _ _ (test a j g))) i h) (eq-eqb _ _ x);
+  returned = λ a i h. ltb-true _ _ (first_true _ _ (second_true _ _ (test a i h)));
 }
   where
     test : (a i : ℕ) → i < length (row rows a) → entry_test rows others a i ≡ true
@@ -66,7 +57,7 @@ lists_pass rows others e = record {
 
 -- lists of which and_from sides pass are a market
 pub market_pass : (l : Lists) → (lists_test l.proposers l.reviewers && lists_test l.reviewers l.proposers) ≡ true → IsMarket l
-market_pass l e = record { proposers = lists_pass l.proposers l.reviewers (and_left _ _ e); reviewers = lists_pass l.reviewers l.proposers (and_right _ _ e) }
+market_pass l e = record { proposers = lists_pass l.proposers l.reviewers (first_true _ _ e); reviewers = lists_pass l.reviewers l.proposers (second_true _ _ e) }
 
 -- matchings
 abbrev pub is_at : Option ℕ → ℕ → Bool
@@ -89,22 +80,22 @@ places_test rows others places theirs = eqb (length places) (length rows) && all
 places_pass : (rows others : List (List ℕ)) (places theirs : List (Option ℕ)) → places_test rows others places theirs ≡ true → AreHeldInTurn rows others places theirs
 places_pass rows others places theirs e = record {
   one_each = one;
-  on_list = λ a i x. ltb-true _ _ (and_left _ _ (test a i x));
-  in_turn = λ a i x. is_at_pass _ _ (and_right _ _ (test a i x));
+  on_list = λ a i x. ltb-true _ _ (first_true _ _ (test a i x));
+  in_turn = λ a i x. is_at_pass _ _ (second_true _ _ (test a i x));
 }
   where
     one : length places ≡ length rows
-    one = eqb-true _ _ (and_left _ _ e)
+    one = eqb-true _ _ (first_true _ _ e)
 
     test : (a i : ℕ) → held places a ≡ Some i → place_test rows others theirs a (Some i) ≡ true
     test a i x = elim (lt_or_le a (length rows)) [
-      | inl k ↦ ap (place_test rows others theirs a) (sym x) ∙ passes (length rows) (λ a. place_test rows others theirs a (held places a)) (and_right _ _ e) a k
+      | inl k ↦ ap (place_test rows others theirs a) (sym x) ∙ passes (length rows) (λ a. place_test rows others theirs a (held places a)) (second_true _ _ e) a k
       | inr k ↦ absurd (none-some _ (sym (get_or_past places a None (omega (arith, one))) ∙ x))
     ]
 
 -- places of which and_from sides pass are a matching
 pub matching_pass : (l : Lists) (m : Places) → (places_test l.proposers l.reviewers m.proposers m.reviewers && places_test l.reviewers l.proposers m.reviewers m.proposers) ≡ true → IsMatching l m
-matching_pass l m e = record { proposers = places_pass _ _ _ _ (and_left _ _ e); reviewers = places_pass _ _ _ _ (and_right _ _ e) }
+matching_pass l m e = record { proposers = places_pass _ _ _ _ (first_true _ _ e); reviewers = places_pass _ _ _ _ (second_true _ _ e) }
 
 -- a matching in which each proposer has the first on its list is the proposers' best
 pub firsts_best : (l : Lists) (m : Places) → IsMatching l m → all_below (length l.proposers) (λ p. eqb (standing l.proposers m.proposers p) 0) ≡ true → IsProposersBest l m
@@ -151,7 +142,7 @@ successor_test l m p i = nat_lt i (length (row l.proposers p)) && (nat_lt (stand
     && (all_below i (λ j. not (nat_lt (standing l.proposers m.proposers p) j && takes_test l m p j)) && is_some (held m.reviewers (entry l.proposers p i)))))
 
 three : (a b c : Bool) → (a && (b && c)) ≡ true → (a ≡ true) × (b ≡ true) × (c ≡ true)
-three a b c e = let f = and_right a (b && c) e in (and_left a (b && c) e, and_left b c f, and_right b c f)
+three a b c e = let f = second_true a (b && c) e in (first_true a (b && c) e, first_true b c f, second_true b c f)
 
 successor_pass : (l : Lists) (m : Places) (p i : ℕ) → successor_test l m p i ≡ true → IsSuccessor l m p i
 successor_pass l m p i e = record {
@@ -184,8 +175,8 @@ pub exposed_pass : (l : Lists) (m : Places) (rotation : List (ℕ × ℕ)) → e
 exposed_pass l m rotation e = record {
   not_empty = ltb-true _ _ whole.0;
   distinct = λ i j a b x. not_true (eqb (proposer_at rotation i) (proposer_at rotation j)) (passes j (λ i. not (eqb (proposer_at rotation i) (proposer_at rotation j))) (passes (length rotation) (apart_test rotation) whole.1 j b) i a) (eq-eqb _ _ x);
-  paired = λ i a. is_at_pass _ _ (and_left (is_at (held m.proposers (proposer_at rotation i)) (place_of l.proposers (proposer_at rotation i) (reviewer_at rotation i))) (successor_test l m (proposer_at rotation i) (place_of l.proposers (proposer_at rotation i) (target_at rotation i))) (test i a));
-  next = λ i a. successor_pass l m _ _ (and_right (is_at (held m.proposers (proposer_at rotation i)) (place_of l.proposers (proposer_at rotation i) (reviewer_at rotation i))) (successor_test l m (proposer_at rotation i) (place_of l.proposers (proposer_at rotation i) (target_at rotation i))) (test i a));
+  paired = λ i a. is_at_pass _ _ (first_true (is_at (held m.proposers (proposer_at rotation i)) (place_of l.proposers (proposer_at rotation i) (reviewer_at rotation i))) (successor_test l m (proposer_at rotation i) (place_of l.proposers (proposer_at rotation i) (target_at rotation i))) (test i a));
+  next = λ i a. successor_pass l m _ _ (second_true (is_at (held m.proposers (proposer_at rotation i)) (place_of l.proposers (proposer_at rotation i) (reviewer_at rotation i))) (successor_test l m (proposer_at rotation i) (place_of l.proposers (proposer_at rotation i) (target_at rotation i))) (test i a));
 }
   where
     whole : (nat_lt 0 (length rotation) ≡ true) × (all_below (length rotation) (apart_test rotation) ≡ true) × (all_below (length rotation) (pair_test l m rotation) ≡ true)

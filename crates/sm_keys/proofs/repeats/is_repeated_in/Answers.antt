@@ -1,13 +1,13 @@
 use Rattle.std.proofs.Common.{◌≡◌, ◌+◌, ◌<◌, ◌++◌, ◌∷◌, [], ◌∙◌, ap, sym, length, suc, take, drop, false, true, arith}
 use Rattle.std.specs.List.{list_any}
 use Rattle.std.specs.Str.{bytes_eq}
+use Rattle.std.proofs.lemmas.Bool.{not-true, not-false}
 use Rattle.indexmap.specs.IndexSet.{keys}
 use Rattle.sm_text.specs.Slices.{texts_of}
 use Rattle.sm_keys.specs.Keys.{spellings}
 use Rattle.sm_keys.specs.Tables.{has_repeated}
 use Rattle.sm_keys.specs.Repeats.{of_class}
 use Rattle.sm_keys.proofs.ListingLemmas.{repeated_among, repeated_push}
-use Rattle.sm_keys.proofs.PositionLemmas.{from_not_false, from_not_true}
 use Rattle.sm_keys.proofs.RepeatLemmas.{slice_at, class_more, class_same, class_between}
 use Rattle.sm_keys.proofs.TextKeyLemmas.{text_among, spellings-put}
 use Rattle.sm_keys.proofs.repeats.is_repeated_in.Goals as goal
@@ -32,7 +32,7 @@ returns-then-not-branch c = λ class_of each.
     let inside : i < length names = omega (arith, c.names-test.true) in
     let name = (slice_at names i).now in
     let seen = keys c.names.seen in
-    let among : list_any (bytes_eq name) (spellings seen) ≡ true = sym (text_among seen name) ∙ from_not_false _ (sym c.in_ok-insert.ensures.added ∙ c.if-not-branch.true) in
+    let among : list_any (bytes_eq name) (spellings seen) ≡ true = sym (text_among seen name) ∙ not-false _ (sym c.in_ok-insert.ensures.added ∙ c.if-not-branch.true) in
     let met : list_any (bytes_eq name) (of_class class_of k (take i texts)) ≡ true = ap (list_any (bytes_eq name)) (sym (c.names.invariant.seen class_of each)) ∙ among in
     sym (ap has_repeated (class_between names c.args.classes.now class_of k each i inside (c.names.invariant.there (omega (arith, inside, c.requires))))
     ∙ repeated_among (of_class class_of k (take i texts)) (of_class class_of k (drop (suc i) texts)) name met)
@@ -47,7 +47,7 @@ names-preserved c =
     let name = (slice_at names i).now in
     let seen = keys c.names.seen in
     let found = c.place_from-place-in-names.ensures in
-    let absent : list_any (bytes_eq name) (spellings seen) ≡ false = sym (text_among seen name) ∙ from_not_true _ (sym c.in_ok-insert.ensures.added ∙ c.if-not-branch.false) in
+    let absent : list_any (bytes_eq name) (spellings seen) ≡ false = sym (text_among seen name) ∙ not-true _ (sym c.in_ok-insert.ensures.added ∙ c.if-not-branch.false) in
     let put : spellings (keys c.insert.new.self) ≡ spellings seen ++ name ∷ [] = spellings-put seen (record { text = slice_at names i }) (keys c.insert.new.self) c.in_ok-insert.ensures.keys absent in
     record {
       seen = λ class_of each.

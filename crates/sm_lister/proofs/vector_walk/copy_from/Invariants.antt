@@ -1,5 +1,5 @@
 use Rattle.std.proofs.Common.{◌≡◌, length}
-use Rattle.sm_lister.specs.Listers.{AreAlikeBelow}
+use Rattle.sm_lists.specs.Orders.{AreAlikeBelow}
 use Rattle.sm_lister.proofs.vector_walk.copy_from.Given as goal
 
 abbrev pub invariant-loop-p : goal.invariant-loop-p

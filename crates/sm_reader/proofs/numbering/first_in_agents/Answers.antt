@@ -1,17 +1,17 @@
 use Rattle.std.proofs.Common.{List, ap, ◌∙◌, sym, map}
+use Rattle.std.proofs.lemmas.Bool.{not-true}
 use Rattle.sm_lists.specs.Earlier.{earlier_of}
 use Rattle.sm_reader.specs.InstanceText.{lines_with_unknown, least}
 use Rattle.sm_reader.specs.Draft.{agent_in, listed_table}
 use Rattle.sm_reader.specs.declared.draft.Declared.{Declared}
 use Rattle.sm_reader.proofs.KnownLemmas.{none_unknown}
 use Rattle.sm_reader.proofs.NumberLemmas.{least-append}
-use Rattle.sm_keys.proofs.PositionLemmas.{from_not_true}
 use Rattle.sm_reader.proofs.numbering.first_in_agents.Goals as goal
 
 pub returns-then-are_declared-2 : goal.returns-then-are_declared-2
 returns-then-are_declared-2 c =
     ap least (sym (none_unknown c.args.kind c.requires.line c.args.draft.now c.requires.draft
-    (from_not_true _ (sym c.are_declared.ensures ∙ c.if-are_declared.true)) (from_not_true _ (sym c.are_declared-then-are_declared.ensures ∙ c.if-are_declared-2.true))))
+    (not-true _ (sym c.are_declared.ensures ∙ c.if-are_declared.true)) (not-true _ (sym c.are_declared-then-are_declared.ensures ∙ c.if-are_declared-2.true))))
 
 pub returns : goal.returns
 returns c =

@@ -1,10 +1,10 @@
 use Rattle.std.proofs.Common.{◌≡◌, ◌∙◌, ◌+◌, ◌-◌, ◌<◌, ◌++◌, ◌∷◌, [], true, length, take, drop, sym, ap, arith}
 use Rattle.std.specs.Prelude.{vec_len}
+use Rattle.std.proofs.lemmas.Bool.{not-false}
 use Rattle.sm_text.specs.Name.{is_name}
 use Rattle.sm_text.specs.Tokens.{IsLeading}
 use Rattle.sm_keys.specs.Tables.{HasStamp, IsStamped}
 use Rattle.sm_keys.specs.Lines.{IsListingLine}
-use Rattle.sm_keys.proofs.PositionLemmas.{from_not_false}
 use Rattle.sm_keys.proofs.LineLemmas.{line_none, line_more, line_moved, line_some, line_all}
 use Rattle.sm_keys.proofs.names.Names.list_tokens.Goals as goal
 
@@ -40,7 +40,7 @@ tokens-preserved c =
     let i = vec_len indexes in
     let index = c.in-Some-2.index in
     let leading : IsLeading line c.tokens.at token.start token.stop = c.in-Some.ensures.places in
-    let is : is_name name ≡ true = sym c.in-Some.ensures.name ∙ from_not_false c.in-Some.token.name c.if-not-token.false in
+    let is : is_name name ≡ true = sym c.in-Some.ensures.name ∙ not-false c.in-Some.token.name c.if-not-token.false in
     let met : IsStamped c.tokens.self c.list_name.new.self name c.args.stamp index = rw c.in-Some-2.is at c.in_ok-index.ensures in
     let some : 0 < c.args.stamp = omega (arith, c.requires.fresh 0) in
     let more : IsListingLine c.args.self.now c.list_name.new.self line token.stop c.args.stamp (i + 1) (indexes.items ++ index ∷ []) =

@@ -2,11 +2,12 @@ use Rattle.std.proofs.Common.{◌≡◌, ◌++◌, ◌∷◌, [], true, false, c
 use Rattle.std.specs.Result.{is_ok}
 use Rattle.std.specs.List.{list_any}
 use Rattle.std.specs.Str.{bytes_eq}
+use Rattle.std.proofs.lemmas.Bool.{not-true, not-false}
 use Rattle.indexmap.specs.IndexSet.{keys}
 use Rattle.sm_keys.specs.Tables.{Table, table_from, Interns}
 use Rattle.sm_keys.specs.Keys.{text_of, key_texts}
 use Rattle.sm_keys.specs.declared.key.Key.{Key}
-use Rattle.sm_keys.proofs.PositionLemmas.{list_any_texts, position_texts, position_or_len-none, from_not_true, from_not_false, key_texts-push}
+use Rattle.sm_keys.proofs.PositionLemmas.{list_any_texts, position_texts, position_or_len-none, key_texts-push}
 use Rattle.sm_keys.proofs.TableLemmas.{interned_new, interned_old}
 use Rattle.sm_keys.proofs.names.Names.place.Goals.{then-is_new, else-is_new}
 use Rattle.sm_keys.proofs.names.Names.place.Goals as goal
@@ -18,7 +19,7 @@ invariant_of-self-then-is_new c =
     let key = c.args.name in
     let name = key.text in
     let old = keys n.texts in
-    let absent : list_any (λ (k : Key). bytes_eq name.now (text_of k)) old ≡ false = from_not_true _ (sym c.in_ok-place.ensures.added ∙ c.if-is_new.true) in
+    let absent : list_any (λ (k : Key). bytes_eq name.now (text_of k)) old ≡ false = not-true _ (sym c.in_ok-place.ensures.added ∙ c.if-is_new.true) in
     let missing : list_any (bytes_eq name.now) (key_texts old) ≡ false = sym (list_any_texts name.now old) ∙ absent in
     let put : keys c.insert_full.new.self ≡ old ++ key ∷ [] = c.in_ok-place.ensures.keys ∙ ap (λ b. cond b old (old ++ key ∷ [])) absent in
     let none : Option ℕ = None in
@@ -41,7 +42,7 @@ invariant_of-self-else-is_new c =
     let key = c.args.name in
     let name = key.text in
     let old = keys n.texts in
-    let there : list_any (λ (k : Key). bytes_eq name.now (text_of k)) old ≡ true = from_not_false _ (sym c.in_ok-place.ensures.added ∙ c.if-is_new.false) in
+    let there : list_any (λ (k : Key). bytes_eq name.now (text_of k)) old ≡ true = not-false _ (sym c.in_ok-place.ensures.added ∙ c.if-is_new.false) in
     let put : keys c.insert_full.new.self ≡ old = c.in_ok-place.ensures.keys ∙ ap (λ b. cond b old (old ++ key ∷ [])) there in
     let new = table_from (keys c.insert_full.new.self) c.reserve.new.self.items c.reserve-2.new.self.items n.declared.items in
     let placed = interned_old t new name.now c.in_ok-place.place c.self.invariant (sym (list_any_texts name.now old) ∙ there) (ap key_texts put) c.in_ok-reserve.ensures.items c.in_ok-reserve-2.ensures.items refl
@@ -56,7 +57,7 @@ returns c = elim c.if-is_new.branch [
       let key = c.args.name in
       let name = key.text in
       let old = keys n.texts in
-      let absent : list_any (λ (k : Key). bytes_eq name.now (text_of k)) old ≡ false = from_not_true _ (sym c.in_ok-place.ensures.added ∙ w.if-is_new.true) in
+      let absent : list_any (λ (k : Key). bytes_eq name.now (text_of k)) old ≡ false = not-true _ (sym c.in_ok-place.ensures.added ∙ w.if-is_new.true) in
       let missing : list_any (bytes_eq name.now) (key_texts old) ≡ false = sym (list_any_texts name.now old) ∙ absent in
       let put : keys c.insert_full.new.self ≡ old ++ key ∷ [] = c.in_ok-place.ensures.keys ∙ ap (λ b. cond b old (old ++ key ∷ [])) absent in
       let none : Option ℕ = None in
@@ -78,7 +79,7 @@ returns c = elim c.if-is_new.branch [
       let key = c.args.name in
       let name = key.text in
       let old = keys n.texts in
-      let there : list_any (λ (k : Key). bytes_eq name.now (text_of k)) old ≡ true = from_not_false _ (sym c.in_ok-place.ensures.added ∙ w.if-is_new.false) in
+      let there : list_any (λ (k : Key). bytes_eq name.now (text_of k)) old ≡ true = not-false _ (sym c.in_ok-place.ensures.added ∙ w.if-is_new.false) in
       let put : keys c.insert_full.new.self ≡ old = c.in_ok-place.ensures.keys ∙ ap (λ b. cond b old (old ++ key ∷ [])) there in
       let new = table_from (keys c.insert_full.new.self) c.reserve.new.self.items c.reserve-2.new.self.items n.declared.items in
       let placed = interned_old t new name.now c.in_ok-place.place c.self.invariant (sym (list_any_texts name.now old) ∙ there) (ap key_texts put) c.in_ok-reserve.ensures.items c.in_ok-reserve-2.ensures.items refl
