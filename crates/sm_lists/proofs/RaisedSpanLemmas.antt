@@ -1,12 +1,12 @@
 -- Lists that stand one behind another, and by how much each is raised.
-use Rattle.std.proofs.Common.{◌≡◌, ℕ, ◌+◌, ◌<◌, ◌^◌, ◌++◌, ◌∷◌, [], List, length, take, replicate, get_or, ap, ◌∙◌, arith}
-use Rattle.std.proofs.lemmas.List.{length-map, length-append, length-take, get_or-take, get_or_past}
+use Rattle.std.proofs.Common.{◌≡◌, ℕ, ◌+◌, ◌<◌, ◌^◌, ◌++◌, List, length, replicate, get_or, ap, ◌∙◌, arith}
+use Rattle.std.proofs.lemmas.List.{length-map, length-append}
 use Rattle.sm_lists.specs.declared.span.Span.{Span}
 use Rattle.sm_lists.specs.Spans.{list_in, rows_in}
 use Rattle.sm_lists.specs.Raised.{raised_lists}
 use Rattle.sm_lists.specs.Raises.{raised_rows, AreRaisedSpans}
 use Rattle.sm_lists.proofs.SpanLemmas.{rows_in_more, rows_in_shared, spans_shared}
-use Rattle.sm_lists.proofs.RaisedLemmas.{raised_by_none, raised_rows-same, raised_rows-pushed, raises_same, raises_pushed}
+use Rattle.sm_lists.proofs.RaisedLemmas.{raised_rows-same, raised_rows-pushed, raises_same, raises_pushed}
 
 -- as many lists as spans
 pub length-rows_in : (entries : List ℕ) (spans : List Span) → length (rows_in entries spans) ≡ length spans
@@ -58,18 +58,3 @@ pub raised_rows-added : {entries list : List ℕ} {spans : List Span} {s : Span}
 raised_rows-added {entries} {list} {spans} {s} {count} {raises} {others} h =
     ap (λ rows. raised_rows rows others) (rows_in_shared entries list spans s count h.before.placed h.start h.end)
     ∙ raised_rows-pushed (rows_in entries spans) list count raises others (same_below h) (counted_on h)
-
--- one list is added that isn't raised: no number is kept for it
-pub added_level : (entries list : List ℕ) (spans : List Span) (s : Span) (raises : List ℕ) → AreRaisedSpans entries spans raises → s.start ≡ length entries → s.end ≡ length (entries ++ list)
-    → AreAdded entries list spans s 1 raises (take (length spans) raises)
-added_level entries list spans s raises h start end = record {
-  before = h;
-  start = start;
-  end = end;
-  same = λ a l. get_or-take (length spans) raises a 0 l;
-  counted = λ k l. get_or_past (take (length spans) raises) (length spans + k) 0 (omega (arith, length-take (length spans) raises)) ∙ (let none : 0 ≡ k = omega (arith, l) in none);
-  room = λ i k more few. absurd (omega (arith, more, few));
-}
-
-pub raised_lists-one : (list : List ℕ) → raised_lists list 1 ≡ list ∷ []
-raised_lists-one list = ap (λ (l : List ℕ). l ∷ []) (raised_by_none list)

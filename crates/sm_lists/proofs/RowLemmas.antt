@@ -1,9 +1,10 @@
 -- Which agents have lists, and how long a list can be.
-use Rattle.std.proofs.Common.{◌≡◌, ℕ, suc, ◌<◌, ◌≤◌, ◌^◌, List, [], ◌∷◌, Vec, length, map, get_or, sym, ap, ◌∙◌, arith, ⊎_elim}
+use Rattle.std.proofs.Common.{◌≡◌, ℕ, suc, ◌+◌, ◌<◌, ◌≤◌, ◌^◌, ◌++◌, List, [], ◌∷◌, Vec, length, map, get_or, sym, ap, ◌∙◌, arith, ⊎_elim}
 use Rattle.std.proofs.lemmas.Bool.{cases_lt}
-use Rattle.std.proofs.lemmas.List.{get_or_past, get_or-map}
+use Rattle.std.proofs.lemmas.List.{get_or_past, get_or-map, map-append}
+use Rattle.std.proofs.lemmas.List.FromFn.{map-range_with_len_more}
 use Rattle.std.proofs.lemmas.List.Sums.{get_or-le-sum_by, sum_by-cons}
-use Rattle.std.specs.List.{sum_by}
+use Rattle.std.specs.List.{sum_by, range_with_len}
 use Rattle.std.specs.declared.alloc.Global.{Global}
 use Rattle.sm_lists.specs.Rows.{row, rows_of}
 use Rattle.sm_lists.specs.Limits.{AreWithinLimits}
@@ -40,3 +41,14 @@ row_read vectors b v list inside read is =
 -- the same of vectors of any items
 pub vector_read : {X : Type 0} (vectors : List (Vec X Global)) (a : ℕ) (d : Vec X Global) → a < length vectors → (get_or vectors a d).items ≡ get_or (map (λ v. v.items) vectors) a []
 vector_read vectors a d inside = sym (get_or-map (λ v. v.items) vectors a d [] inside)
+
+-- one more list, of the next agent
+pub list_pushed : (rows : List (List ℕ)) (list : List ℕ) (f : ℕ → List ℕ) (a : ℕ) → rows ≡ map f (range_with_len 0 a) → list ≡ f a → rows ++ list ∷ [] ≡ map f (range_with_len 0 (a + 1))
+list_pushed rows list f a e here =
+    ap (λ t. t ++ list ∷ []) e ∙ ap (λ t. map f (range_with_len 0 a) ++ t ∷ []) here ∙ sym (map-range_with_len_more f 0 a a (omega arith))
+
+-- the same of one in a vector
+pub rows_of-push : (vectors : List (Vec ℕ Global)) (v : Vec ℕ Global) (f : ℕ → List ℕ) (a : ℕ) → rows_of vectors ≡ map f (range_with_len 0 a) → v.items ≡ f a
+    → rows_of (vectors ++ v ∷ []) ≡ map f (range_with_len 0 (a + 1))
+rows_of-push vectors v f a e here =
+    map-append (λ (x : Vec ℕ Global). x.items) vectors (v ∷ []) ∙ list_pushed (rows_of vectors) v.items f a e here

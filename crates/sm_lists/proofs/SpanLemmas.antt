@@ -29,7 +29,7 @@ list_in_last entries list s start end =
     ∙ ap (λ n. take n list) (let e : s.end - s.start ≡ length list = omega arith in e)
     ∙ take-length list
 
-map_replicate : {X Y : Type 0} (f : X → Y) (x : X) (n : ℕ) → map f (replicate n x) ≡ replicate n (f x)
+pub map_replicate : {X Y : Type 0} (f : X → Y) (x : X) (n : ℕ) → map f (replicate n x) ≡ replicate n (f x)
 map_replicate f x zero = refl
 map_replicate f x (suc n) = ap (λ t. f x ∷ t) (map_replicate f x n)
 
@@ -65,13 +65,13 @@ spans_shared entries list spans s count h start end =
       within = added_cases (λ t. t.end ≤ length (entries ++ list)) spans count s no_span (omega arith) (omega arith) (λ a. omega (arith, h.within a));
     }
 
--- the spans of a vector that was made longer by so many
-pub resized_is : (spans : Vec Span Global) (long count : ℕ) (s : Span) → long ≡ spans.len
-    → take (long + count) spans.items ++ replicate (long + count - spans.len) s ≡ spans.items ++ replicate count s
-resized_is spans long count s is =
-    let same : spans.len ≡ length spans.items = spans.ok.0 in
-    ap (λ t. t ++ replicate (long + count - spans.len) s) (take_all (long + count) spans.items (omega arith))
-    ∙ ap (λ (n : ℕ). spans.items ++ replicate n s) (let left : long + count - spans.len ≡ count = omega arith in left)
+-- what a vector has that was made longer by so many
+pub resized_is : {X : Type 0} (items : Vec X Global) (long count : ℕ) (x : X) → long ≡ items.len
+    → take (long + count) items.items ++ replicate (long + count - items.len) x ≡ items.items ++ replicate count x
+resized_is items long count x is =
+    let same : items.len ≡ length items.items = items.ok.0 in
+    ap (λ t. t ++ replicate (long + count - items.len) x) (take_all (long + count) items.items (omega arith))
+    ∙ ap (λ (n : ℕ). items.items ++ replicate n x) (let left : long + count - items.len ≡ count = omega arith in left)
 
 -- lists of cross places are those of the places among all of them
 pub places_in_spans : (crosses : List (Option ℕ)) (spans : List Span) → rows_in (places_in crosses) spans ≡ map places_in (map (list_in crosses) spans)

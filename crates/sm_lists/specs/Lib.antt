@@ -1,4 +1,5 @@
 pub mod Rows
+pub mod RowsWritten
 pub mod Limits
 pub mod Orders
 pub mod EachOnce

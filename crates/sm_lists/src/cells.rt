@@ -1,12 +1,15 @@
 //! Numbers that are kept in two bytes where they fit.
 
-ghost use Rattle.std.specs.Prelude.{◌≡◌, ℕ, ◌-◌, ◌<◌, ◌^◌, ◌↔◌, ◌++◌, [], length, slice_index, IfOk, OnOk, OnErr, IsTrue};
+ghost use Rattle.std.specs.Prelude.{◌≡◌, ℕ, ◌-◌, ◌<◌, ◌^◌, ◌↔◌, ◌++◌, [], length, replicate, slice_index, IfOk, OnOk, OnErr, IsTrue};
 ghost use Rattle.sm_lists.specs.Places.{places_in};
 
 use crate::cross::Cross;
 use crate::place::KeptPlace;
 use std::alloc::{AllocError, Global};
 use std::marker::Model;
+
+/// The least number that doesn't fit 15 bits, and so not two bytes as a place.
+const TOO_GREAT: u32 = 32_768;
 
 /// Numbers in order: in two bytes each, and in four from the first list on that was added with one that doesn't fit.
 #[derive(Debug, Drop)]
@@ -91,11 +94,36 @@ impl Cells {
         if self.wide.is_empty() && all_fit(list) {
             return add_narrow(&mut self.narrow, list);
         }
+        self.widen()?;
+        self.wide.extend_from_slice(list)
+    }
+
+    /// Adds so many equal numbers. Takes time in proportion to their count.
+    ///
+    /// # Errors
+    ///
+    /// `AllocError` where memory ran out, and only then. The numbers are then what they were.
+    pub(crate) fn extend_equal(&mut self, number: u32, count: usize) -> Result<(), AllocError>
+        requires { count < 2 ^ 63 }
+        ensures added { OnOk result (self.new ≡ self.old ++ replicate count number) }
+        ensures kept { OnErr result (self.new ≡ self.old) }
+    {
+        if self.wide.is_empty() && number < TOO_GREAT {
+            return add_equal(&mut self.narrow, number, count);
+        }
+        self.widen()?;
+        self.wide.resize(self.wide.len() + count, number)
+    }
+
+    /// Makes room in four bytes for what there is room for in two, where none is kept in four yet.
+    fn widen(&mut self) -> Result<(), AllocError>
+        ensures { self.new ≡ self.old }
+    {
         if self.wide.is_empty() {
             let room = self.narrow.capacity() - self.narrow.len();
             self.wide.reserve(room)?;
         }
-        self.wide.extend_from_slice(list)
+        Ok(())
     }
 
     /// The same numbers. Takes time and memory in proportion to them.
@@ -121,7 +149,7 @@ fn all_fit(list: &[u32]) -> bool
     for number in list {
         bits |= *number;
     }
-    bits < 32_768
+    bits < TOO_GREAT
 }
 
 /// Adds numbers that fit two bytes.
@@ -133,6 +161,19 @@ fn add_narrow(cells: &mut Vec<Cross>, list: &[u32]) -> Result<(), AllocError>
     let before = cells.len();
     cells.resize(before + list.len(), Cross::of(None))?;
     write_narrow(&mut cells[before..], list);
+    Ok(())
+}
+
+/// Adds so many equal numbers that fit two bytes.
+fn add_equal(cells: &mut Vec<Cross>, number: u32, count: usize) -> Result<(), AllocError>
+    requires fits { number < 2 ^ 15 }
+    requires few { count < 2 ^ 63 }
+    ensures added { OnOk result (places_in cells.new.items
+        ≡ places_in cells.old.items ++ replicate count number) }
+    ensures kept { OnErr result (places_in cells.new.items ≡ places_in cells.old.items) }
+{
+    let before = cells.len();
+    cells.resize(before + count, Cross::of(Some(number)))?;
     Ok(())
 }
 

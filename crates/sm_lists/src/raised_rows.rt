@@ -1,6 +1,6 @@
 //! Lists that share their entries but for a number that is added to each.
 
-ghost use Rattle.std.specs.Prelude.{◌≡◌, ℕ, ◌+◌, ◌<◌, ◌≤◌, ◌^◌, ◌++◌, ◌∷◌, [], length, map, slice_index, IfOk, OnOk, OnErr};
+ghost use Rattle.std.specs.Prelude.{◌≡◌, ℕ, ◌+◌, ◌<◌, ◌≤◌, ◌^◌, ◌++◌, [], length, map, slice_index, IfOk, OnOk, OnErr};
 ghost use Rattle.sm_lists.specs.Places.{places_in};
 ghost use Rattle.sm_lists.specs.Rows.{row, entry};
 ghost use Rattle.sm_lists.specs.Spans.{rows_in, AreSpans};
@@ -63,11 +63,7 @@ impl RaisedRows {
         ensures { result ≡ rows }
     {
         let (entries, spans) = rows.into_parts();
-        RaisedRows {
-            entries: Cells::wide(alloc, entries),
-            spans,
-            raises: Vec::new(alloc),
-        }
+        RaisedRows::of_cells(alloc, Cells::wide(alloc, entries), spans)
     }
 
     /// These cross places, of which none is raised; where there is none, 0. They are moved in. Takes time and memory in proportion
@@ -80,27 +76,19 @@ impl RaisedRows {
         ensures { IfOk result (λ rows. rows ≡ map places_in crosses) }
     {
         let (places, spans) = crosses.into_spans(alloc)?;
-        Ok(RaisedRows {
-            entries: Cells::of_crosses(alloc, places),
-            spans,
-            raises: Vec::new(alloc),
-        })
+        Ok(RaisedRows::of_cells(alloc, Cells::of_crosses(alloc, places), spans))
     }
 
-    /// Adds a list that isn't raised. Takes time in proportion to it.
-    ///
-    /// # Errors
-    ///
-    /// Those of [`Rows::push`].
-    pub fn push(&mut self, list: &[u32]) -> Result<(), AllocError>
-        ensures pushed { OnOk result (self.new ≡ self.old ++ list.now ∷ []) }
-        ensures kept { OnErr result (self.new ≡ self.old) }
+    /// The lists that stand so among all entries, of which none is raised. Takes constant time.
+    pub(crate) fn of_cells(alloc: Global, entries: Cells, spans: Vec<Span>) -> RaisedRows
+        requires { AreSpans (length entries) spans.items }
+        ensures { result ≡ rows_in entries spans.items }
     {
-        let agents = self.spans.len();
-        let span = add_entries(&mut self.entries, list)?;
-        self.spans.push(span)?;
-        self.raises.truncate(agents);
-        Ok(())
+        RaisedRows {
+            entries,
+            spans,
+            raises: Vec::new(alloc),
+        }
     }
 
     /// Adds a list for each of so many agents: this one for the first, and for each other the list of the one before it with

@@ -136,6 +136,14 @@ impl Rows {
         self.entries[start as usize + place as usize]
     }
 
+    /// The lists that stand so among all entries. Takes constant time.
+    pub(crate) fn of_parts(entries: Vec<u32>, spans: Vec<Span>) -> Rows
+        requires { AreSpans (length entries.items) spans.items }
+        ensures { result ≡ rows_in entries.items spans.items }
+    {
+        Rows { entries, spans }
+    }
+
     /// All entries, and where the list of each agent stands among them.
     pub(crate) fn into_parts(self) -> (Vec<u32>, Vec<Span>)
         ensures spans { AreSpans (length result.0.items) result.1.items }

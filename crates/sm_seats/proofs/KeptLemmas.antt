@@ -7,10 +7,9 @@ use Rattle.sm_instance.proofs.AcceptLemmas.{proposer_row_fits}
 use Rattle.sm_lists.specs.Rows.{place_on}
 use Rattle.sm_market.specs.Lists.{row, entry}
 use Rattle.sm_seats.specs.Seating.{Seating, seating_of, written_place}
-use Rattle.sm_seats.specs.Along.{AreSeatsAlong}
 use Rattle.sm_seats.specs.Kept.{IsKept}
 use Rattle.sm_seats.proofs.CorrespondenceLaws.{sound_entries, is_seating}
-use Rattle.sm_seats.proofs.SeatingLaws.{list_of, rises}
+use Rattle.sm_seats.proofs.SeatingLaws.{list_of}
 
 -- the seating of an instance can be kept
 pub seating_kept : {w : Written} → IsInstance w → IsKept (seating_of w)
@@ -24,12 +23,7 @@ seating_kept {w} h =
       short = λ p. let long = ap length (list_of it p) in omega (arith, long, proposer_row_fits h p);
       there = λ p i on. let below = it.market.proposers.in_range p i on in omega (arith, below, it.seats);
       listed = it.on_lists;
-      rises = rises it;
     }
-
--- each list of seats goes along the written one
-pub along : {s : Seating} → IsKept s → (p : ℕ) → AreSeatsAlong (row s.lists p) (row s.market.proposers p) s.seats
-along kept p = record { there = kept.there p; listed = kept.listed p; rises = kept.rises p }
 
 -- the written place of a place, as it is read: x is the name of the seat there, and the list is the written one
 pub record IsRead (s : Seating) (p place : ℕ) (list : List ℕ) (x : ℕ × ℕ) : Type 0 where

@@ -34,3 +34,4 @@ pub mod LevelLemmas
 pub mod SecondLemmas
 pub mod GainLemmas
 pub mod ShownNetLemmas
+pub mod BeginLemmas

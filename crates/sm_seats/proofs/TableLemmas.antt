@@ -1,12 +1,11 @@
 -- What stands in the tables that are made on the way to the market of seats.
-use Rattle.std.proofs.Common.{◌≡◌, ℕ, ◌+◌, ◌-◌, ◌*◌, ◌<◌, ◌≤◌, ◌++◌, ◌∷◌, [], true, false, cond, nat_eq, List, length, take, drop, map, get_or, min, Vec, sym, ap, ◌∙◌, arith, inl, inr}
+use Rattle.std.proofs.Common.{◌≡◌, ℕ, ◌+◌, ◌-◌, ◌*◌, ◌<◌, ◌≤◌, ◌++◌, ◌∷◌, [], true, false, cond, nat_eq, List, length, take, drop, map, get_or, min, sym, ap, ◌∙◌, arith, inl, inr}
 use Rattle.std.specs.List.{filter, flat_map, range_with_len}
 use Rattle.std.proofs.lemmas.Bool.{cases_lt, eqb-true, cases_Bool}
-use Rattle.std.proofs.lemmas.List.{map-append, length_push, length-take, length-take-le, get_or-map, length-map, get_or_past, length-append, append-nil}
+use Rattle.std.proofs.lemmas.List.{length_push, length-take, length-take-le, get_or-map, length-map, get_or_past, length-append, append-nil}
 use Rattle.std.proofs.lemmas.List.Concat.{flat_map-append}
-use Rattle.std.proofs.lemmas.List.FromFn.{get_or-map-range_with_len, length-map-range_with_len, length-range_with_len, map-range_with_len_more}
-use Rattle.std.specs.declared.alloc.Global.{Global}
-use Rattle.sm_lists.specs.Rows.{place_on, rows_of}
+use Rattle.std.proofs.lemmas.List.FromFn.{get_or-map-range_with_len, length-map-range_with_len, length-range_with_len}
+use Rattle.sm_lists.specs.Rows.{place_on}
 use Rattle.sm_lists.specs.Rows.{row as table_row, entry as table_entry}
 use Rattle.sm_agents.specs.Written.{AgentData, Written, no_agent, row, entry, place_of, capacity_of}
 use Rattle.sm_agents.specs.Sound.{IsInstance}
@@ -51,7 +50,7 @@ pub record IsListed (w : Written) (p n count : ℕ) : Type 0 where
 pub seats_listed-le : (w : Written) (p i n : ℕ) → i ≤ n → seats_listed w p i ≤ seats_listed w p n
 seats_listed-le w p i n le = pieces_up (seats_at w) (lists_back w.reviewers p) (row w.proposers p) i n le
 
-seats_joined : (w : Written) (xs : List ℕ) (r : ℕ) → length (flat_map (seats_at w) (xs ++ r ∷ [])) ≡ length (flat_map (seats_at w) xs) + seat_count w r
+pub seats_joined : (w : Written) (xs : List ℕ) (r : ℕ) → length (flat_map (seats_at w) (xs ++ r ∷ [])) ≡ length (flat_map (seats_at w) xs) + seat_count w r
 seats_joined w xs r =
     let one : seats_at w r ++ [] ≡ seats_at w r = append-nil (seats_at w r) in
     ap length (flat_map-append (seats_at w) xs (r ∷ [])) ∙ length-append (flat_map (seats_at w) xs) (seats_at w r ++ [])
@@ -150,17 +149,6 @@ mutual_before_is w {p} {r} m =
 -- the place where the seats of a mutual reviewer begin
 pub begin_of-first_place : (w : Written) {p r : ℕ} → IsMutual w.proposers w.reviewers p r → begin_of w r p ≡ first_place w p r
 begin_of-first_place w {p} {r} m = ap (λ l. length (flat_map (seats_at w) l)) (filter-take_place (lists_back w.reviewers p) (row w.proposers p) r (lt_true _ _ m.listed) m.lists)
-
--- one more list
-pub list_pushed : (rows : List (List ℕ)) (list : List ℕ) (f : ℕ → List ℕ) (a : ℕ) → rows ≡ map f (range_with_len 0 a) → list ≡ f a → rows ++ list ∷ [] ≡ map f (range_with_len 0 (a + 1))
-list_pushed rows list f a e here =
-    ap (λ t. t ++ list ∷ []) e ∙ ap (λ t. map f (range_with_len 0 a) ++ t ∷ []) here ∙ sym (map-range_with_len_more f 0 a a (omega arith))
-
--- the same of one in a vector
-pub rows_of-push : (vectors : List (Vec ℕ Global)) (v : Vec ℕ Global) (f : ℕ → List ℕ) (a : ℕ) → rows_of vectors ≡ map f (range_with_len 0 a) → v.items ≡ f a
-    → rows_of (vectors ++ v ∷ []) ≡ map f (range_with_len 0 (a + 1))
-rows_of-push vectors v f a e here =
-    map-append (λ (x : Vec ℕ Global). x.items) vectors (v ∷ []) ∙ list_pushed (rows_of vectors) v.items f a e here
 
 -- what is read of the first seats
 pub record AreSeatsRead (w : Written) (firsts : List ℕ) (r : ℕ) : Type 0 where

@@ -2,8 +2,8 @@ pub mod Mutual
 pub mod SeatMarket
 pub mod SeatEntries
 pub mod Seating
-pub mod Along
 pub mod Kept
+pub mod Begins
 pub mod Taken
 pub mod Correspondence
 pub mod Laws

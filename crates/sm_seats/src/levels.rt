@@ -1,68 +1,56 @@
 //! The levels of places on a proposer's list of seats, by its written list.
 
-ghost use Rattle.std.specs.Prelude.{◌≡◌, ℕ, ◌+◌, ◌<◌, ◌≤◌, ◌^◌, ◌++◌, ◌∷◌, [], length, map, slice_index, vec_len, vec_capacity, IfOk};
-ghost use Rattle.std.specs.List.{range_with_len};
+ghost use Rattle.std.specs.Prelude.{◌≡◌, ◌<◌, ◌^◌, length, IfOk};
 ghost use Rattle.sm_lists.specs.Rows.{place_on};
-ghost use Rattle.sm_seats.specs.Along.{place_along, AreSeatsAlong};
+ghost use Rattle.sm_seats.specs.Begins.{AreRisingPlaces, AreLevelsBetween, AreLevelsUpTo};
 
 use std::alloc::{AllocError, Global};
 
-/// The levels along a list of seats, each the rank of the seat's reviewer on a written list, and behind them that of being
-/// unmatched. Takes time and memory in proportion to both lists.
+/// The levels along a list of seats, each the rank of the seat's reviewer on the written list, and behind them that of being
+/// unmatched: from where the seats of each reviewer begin, and behind the last one how many there are. Takes time and memory in
+/// proportion to the seats and the written list.
 ///
 /// # Errors
 ///
 /// `AllocError` where memory ran out, and only then.
-pub(crate) fn levels_along(
-    alloc: Global,
-    list: &[u32],
-    row: &[u32],
-    seats: &[(u32, u32)],
-) -> Result<Vec<u32>, AllocError>
-    requires along { AreSeatsAlong list.now row.now seats.now }
-    requires short { length list.now < 2 ^ 24 }
-    requires fits { length row.now < 2 ^ 24 }
-    ensures { IfOk result (λ levels. levels.items
-        ≡ map (λ i. place_along list.now row.now seats.now i
-        + 1) (range_with_len 0 (length row.now))
-        ++ (length list.now + 1) ∷ []) }
+pub(crate) fn levels_between(alloc: Global, begins: &[u32]) -> Result<Vec<u32>, AllocError>
+    requires { AreRisingPlaces begins.now }
+    ensures { IfOk result (λ levels. AreLevelsBetween begins.now levels.items) }
 {
-    let mut levels = Vec::with_capacity(alloc, row.len() + 1)?;
-    add_levels(list, row, seats, &mut levels);
-    levels.push_reserved(list.len() as u32 + 1);
+    let reviewers = begins.len() as u32 - 1;
+    let mut levels = Vec::with_capacity(alloc, begins[reviewers as usize] as usize + 1)?;
+    for place in 0..reviewers {
+        levels.resize(begins[place as usize + 1] as usize, place + 1)?;
+    }
+    levels.push(reviewers + 1)?;
     Ok(levels)
 }
 
-/// Adds the levels along a list of seats, for which there is room, and for one more. Nothing in the loop fails, so that what it
-/// reads stays in registers. The seats of one reviewer stand behind one another, so that the place is mostly that of the seat
-/// before.
-#[inline(always)]
-fn add_levels(list: &[u32], row: &[u32], seats: &[(u32, u32)], levels: &mut Vec<u32>)
-    requires along { AreSeatsAlong list.now row.now seats.now }
-    requires short { length list.now < 2 ^ 24 }
-    requires none { levels.old.items ≡ [] }
-    requires room { vec_len levels.old + length row.now < vec_capacity levels.old }
-    ensures levels { levels.new.items ≡ map (λ i. place_along list.now row.now seats.now i
-        + 1) (range_with_len 0 (length row.now)) }
-    ensures room { vec_len levels.new < vec_capacity levels.new }
+/// The same along a list that is the written one: its ranks, and behind them that of being unmatched. Takes time and memory in
+/// proportion to the list.
+///
+/// # Errors
+///
+/// `AllocError` where memory ran out, and only then.
+pub(crate) fn levels_up_to(alloc: Global, places: u32) -> Result<Vec<u32>, AllocError>
+    requires { places < 2 ^ 24 }
+    ensures { IfOk result (λ levels. AreLevelsUpTo places levels.items) }
 {
-    let mut place = 0;
-    for at in 0..row.len() {
-        let (r, _) = seats[row[at] as usize];
-        place = place_from(list, place, r);
+    let mut levels = Vec::with_capacity(alloc, places as usize + 1)?;
+    for place in 0..places + 1 {
         levels.push_reserved(place + 1);
     }
+    Ok(levels)
 }
 
-/// The place of a reviewer on a list, which is that from which it is looked for, or a later one.
+/// The place of a reviewer on a list on which it stands. Takes time in proportion to the place.
 #[inline(always)]
-pub(crate) fn place_from(list: &[u32], from: u32, r: u32) -> u32
+pub(crate) fn place_on(list: &[u32], r: u32) -> u32
     requires listed { place_on list.now r < length list.now }
-    requires from { from ≤ place_on list.now r }
     requires short { length list.now < 2 ^ 24 }
     ensures { result ≡ place_on list.now r }
 {
-    let mut place = from;
+    let mut place = 0;
     while list[place as usize] != r {
         place += 1;
     }

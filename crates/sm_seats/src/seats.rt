@@ -17,6 +17,7 @@ ghost use Rattle.sm_seats.specs.Taken.{places_taken};
 ghost use Rattle.sm_seats.specs.Correspondence.{IsSeating};
 ghost use Rattle.sm_seats.specs.Counted.{AreSeatCounts, AreEntryCounts, first_seats_of};
 ghost use Rattle.sm_seats.specs.Plain.{IsPlain};
+ghost use Rattle.sm_seats.specs.Tables.{seat_places_of};
 ghost use Rattle.sm_seats.specs.ProposerRows.{seat_rows_of, cross_rows_of};
 ghost use Rattle.sm_seats.specs.ReviewerRows.{seat_lists_before, seat_crosses_before};
 
@@ -24,7 +25,7 @@ use crate::counts::{SeatCounts, seat_counts};
 use crate::crossed_instance::CrossedInstance;
 use crate::entry_counts::{EntryCounts, entry_counts};
 use crate::faults::SeatsFault;
-use crate::levels::{levels_along, place_from};
+use crate::levels::{levels_between, levels_up_to, place_on};
 use crate::places::{mutual_places, seat_places, written_entries};
 use crate::plain::{is_plain, plain_proposers, plain_seats};
 use crate::proposer_rows::{ProposerRows, proposer_rows};
@@ -54,19 +55,21 @@ pub struct Seats {
     #[derive_where(skip)]
     written: Snapshot<Instance>,
     lists: WrittenLists,
+    /// Where the seats of each reviewer begin on the proposers' lists of seats, where these aren't the written lists.
+    begins: Option<Rows>,
     market: Rc<Market>,
     seats: Vec<(u32, u32)>,
 }
 
 impl Model for Seats {
     ghost use Rattle.sm_seats.specs.Seating.{Seating};
-    ghost use Rattle.sm_seats.specs.Kept.{IsKept};
+    ghost use Rattle.sm_seats.specs.Kept.{IsKeptWith};
 
     ghost Value = { Seating };
 
     ghost view = { λ s. record { written = s.written.value; lists = s.lists; market = s.market.value; seats = s.seats.items } };
 
-    ghost invariant = { λ s. IsKept (record { written = s.written.value; lists = s.lists; market = s.market.value; seats = s.seats.items }) };
+    ghost invariant = { λ s. IsKeptWith s.begins (record { written = s.written.value; lists = s.lists; market = s.market.value; seats = s.seats.items }) };
 }
 
 impl Seats {
@@ -155,7 +158,7 @@ impl Seats {
         ensures { result ≡ written_place self.now p place + 1 }
     {
         let (r, _) = self.seats[self.market.as_ref().reviewer_at(p, place) as usize];
-        place_from(self.lists.at(p), 0, r) + 1
+        place_on(self.lists.at(p), r) + 1
     }
 
     /// For each proposer the levels of its places, followed by that of being unmatched, which is one more than the length
@@ -181,12 +184,10 @@ impl Seats {
         requires { p < length self.now.market.proposers }
         ensures { IfOk result (λ levels. levels.items ≡ levels_at self.now p) }
     {
-        levels_along(
-            alloc,
-            self.lists.at(p),
-            self.market.as_ref().proposer_list(p),
-            &self.seats,
-        )
+        match &self.begins {
+            Some(begins) => levels_between(alloc, begins.at(p)),
+            None => levels_up_to(alloc, self.market.as_ref().proposer_len(p)),
+        }
     }
 
     /// The assignment in which each proposer has the reviewer of its seat. Takes memory in proportion to the proposers, and
@@ -289,7 +290,7 @@ fn plain_market_seats(
     let CrossPlaces { rows, others } = crosses.into_sides(alloc)?;
     let proposers = plain_proposers(alloc, instance, rows)?;
     let reviewers = plain_seats(alloc, instance, others)?;
-    seats_held(alloc, instance, None, proposers, reviewers)
+    seats_held(alloc, instance, None, None, proposers, reviewers)
 }
 
 /// The seats of any instance, by what is counted of them.
@@ -305,28 +306,33 @@ fn seats_of_counts(
 {
     let places = mutual_places(alloc, instance, &counts.acceptable)?;
     let begins = seat_places(alloc, instance, counts.firsts)?;
-    let proposers = proposer_rows(alloc, instance, counts, &places, &begins)?;
+    let proposers = proposer_rows(alloc, instance, counts, &places)?;
     let reviewers = reviewer_rows(alloc, instance, counts, &begins)?;
     let lists = written_lists(alloc, instance)?;
     seats_held(
         alloc,
         instance.instance(),
         Some(lists),
+        Some(begins),
         proposers,
         reviewers,
     )
 }
 
-/// The seats with these lists, beside the lists that the proposers wrote where these differ from those of the market.
+/// The seats with these lists, beside the lists that the proposers wrote, and where the seats of each reviewer begin, where these
+/// differ from those of the market.
 fn seats_held(
     alloc: Global,
     instance: &Instance,
     beside: Option<Rows>,
+    begins: Option<Rows>,
     proposers: ProposerRows,
     reviewers: ReviewerRows,
 ) -> Result<Seats, AllocError>
     requires instance { IsInstance instance.now }
     requires few { AreFewSeats instance.now }
+    requires begins { MatchOption begins (IsPlain instance.now) (λ begins. begins
+        ≡ seat_places_of instance.now) }
     requires written { unwrap_or beside proposers.lists ≡ lists_of instance.now.proposers }
     requires proposers { proposers.lists
         ≡ seat_rows_of instance.now (length instance.now.proposers) }
@@ -351,6 +357,7 @@ fn seats_held(
     Ok(Seats {
         written: Snapshot::of(instance),
         lists,
+        begins,
         market,
         seats: reviewers.seats,
     })

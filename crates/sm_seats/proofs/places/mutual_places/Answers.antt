@@ -2,7 +2,7 @@ use Rattle.std.proofs.Common.{◌∙◌, ap, get_or, length, arith}
 use Rattle.std.proofs.lemmas.List.FromFn.{get_or-map-range_with_len, length-map-range_with_len}
 use Rattle.sm_seats.specs.Tables.{inert_places_at}
 use Rattle.sm_seats.specs.Counted.{acceptable_at}
-use Rattle.sm_seats.proofs.TableLemmas.{list_pushed}
+use Rattle.sm_lists.proofs.RowLemmas.{list_pushed}
 use Rattle.sm_seats.proofs.places.mutual_places.Goals as goal
 
 pub bounds-acceptable-r : goal.bounds-acceptable-r

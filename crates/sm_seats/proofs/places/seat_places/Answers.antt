@@ -1,6 +1,6 @@
 use Rattle.std.proofs.Common.{◌∙◌}
 use Rattle.sm_seats.specs.Tables.{seat_places_at}
-use Rattle.sm_seats.proofs.TableLemmas.{list_pushed}
+use Rattle.sm_lists.proofs.RowLemmas.{list_pushed}
 use Rattle.sm_seats.proofs.places.seat_places.Goals as goal
 
 pub loop-p-preserved : goal.loop-p-preserved

@@ -1,7 +1,7 @@
 use Rattle.std.proofs.Common.{◌≡◌, ◌<◌, length, sym, ap, ◌∙◌, arith}
 use Rattle.sm_seats.specs.SeatMarket.{seat_row}
 use Rattle.sm_seats.specs.ProposerRows.{seat_rows_of}
-use Rattle.sm_seats.proofs.TableLemmas.{list_pushed}
+use Rattle.sm_lists.proofs.RowLemmas.{list_pushed}
 use Rattle.sm_seats.proofs.PlainLemmas.{seat_row_is, rows_are_written, crosses_are_written}
 use Rattle.sm_seats.proofs.plain.plain_proposers.Goals as goal
 

@@ -1,7 +1,6 @@
-use Rattle.std.proofs.Common.{◌∙◌}
 use Rattle.sm_seats.specs.SeatMarket.{seat_row}
 use Rattle.sm_seats.specs.Tables.{cross_row}
-use Rattle.sm_seats.proofs.TableLemmas.{list_pushed}
+use Rattle.sm_lists.proofs.RowLemmas.{list_pushed}
 use Rattle.sm_seats.proofs.proposer_rows.proposer_rows.Goals as goal
 
 pub loop-p-preserved : goal.loop-p-preserved
@@ -9,8 +8,11 @@ loop-p-preserved c =
     let w = c.args.instance.now in
     let p = c.loop-p.p in
     let before = c.loop-p.invariant in
-    let written = c.in_ok-write_row.ensures in
+    let row = c.in_ok-write_row.ensures in
+    let end = c.in_ok-end_list.ensures in
     record {
-      lists = rw c.in_ok-push.ensures.pushed (list_pushed c.loop-p.lists c.deref.result.now (seat_row w) p before.lists (c.deref.ensures.value ∙ written.list));
-      crosses = rw c.in_ok-push-2.ensures.pushed (list_pushed c.loop-p.crosses c.deref-in-loop-p.result.now (cross_row w) p before.crosses (c.deref-in-loop-p.ensures.value ∙ written.crosses));
+      lists = rw (end.lists, row.lists) (list_pushed c.loop-p.writer.lists c.write_row.new.writer.list (seat_row w) p before.lists row.list);
+      crosses = rw (end.crosses, row.crosses) (list_pushed c.loop-p.writer.crosses c.write_row.new.writer.list_crosses (cross_row w) p before.crosses row.list_crosses);
+      list = end.list;
+      list_crosses = end.list_crosses;
     }

@@ -8,6 +8,7 @@ use Rattle.sm_seats.proofs.MarketLaws.{is_market}
 use Rattle.sm_seats.proofs.CrossRows.{proposers_crossed, reviewers_crossed, lists_made}
 use Rattle.sm_seats.proofs.SeatingMade.{market_made, seating_made}
 use Rattle.sm_seats.proofs.KeptLemmas.{seating_kept}
+use Rattle.sm_seats.proofs.BeginLemmas.{begins_kept}
 use Rattle.sm_seats.proofs.seats.seats_held.Goals as goal
 
 pub held-market-requires-clause-limits : goal.held-market-requires-clause-limits
@@ -35,7 +36,7 @@ invariant_of-result c =
     let w = c.args.instance.now in
     let market : c.in_ok-market.market.value ≡ seat_market w = c.in_ok-market.ensures.ok ∙ c.held-market.ensures.lists ∙ market_made w c.args.proposers.lists c.args.reviewers.lists c.requires.proposers c.requires.reviewers in
     let lists : c.of-lists.result ≡ lists_of w.proposers = c.of-lists.ensures ∙ ap (λ (m : Lists). unwrap_or c.args.beside m.proposers) (c.in_ok-clone.ensures.cases ∙ c.in_ok-market.ensures.ok ∙ c.held-market.ensures.lists) ∙ c.requires.written in
-    rw (seating_made w c.of.result.value c.of-lists.result c.in_ok-market.market.value c.args.reviewers.seats.items c.of.ensures lists market c.requires.seats) (seating_kept c.requires.instance)
+    rw (seating_made w c.of.result.value c.of-lists.result c.in_ok-market.market.value c.args.reviewers.seats.items c.of.ensures lists market c.requires.seats) (record { kept = seating_kept c.requires.instance; placed = begins_kept c.requires.instance c.args.begins c.requires.begins })
 
 pub returns-clause-seats : goal.returns-clause-seats
 returns-clause-seats c =

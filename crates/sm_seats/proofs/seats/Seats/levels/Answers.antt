@@ -1,5 +1,5 @@
 use Rattle.sm_seats.specs.Seating.{levels_at}
-use Rattle.sm_seats.proofs.TableLemmas.{rows_of-push}
+use Rattle.sm_lists.proofs.RowLemmas.{rows_of-push}
 use Rattle.sm_seats.proofs.seats.Seats.levels.Goals as goal
 
 pub loop-p-preserved : goal.loop-p-preserved

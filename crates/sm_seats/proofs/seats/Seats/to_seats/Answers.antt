@@ -9,12 +9,12 @@ use Rattle.sm_seats.proofs.seats.Seats.to_seats.Goals as goal
 
 pub places_taken-requires : goal.places_taken-requires
 places_taken-requires c =
-    let kept : IsKept c.args.self.now = subst IsKept c.self.view_is c.self.invariant in
+    let kept : IsKept c.args.self.now = subst IsKept c.self.view_is c.self.invariant.kept in
     (kept.instance, (kept.made, c.requires))
 
 pub held-requires : goal.held-requires
 held-requires c =
-    let kept : IsKept c.args.self.now = subst IsKept c.self.view_is c.self.invariant in
+    let kept : IsKept c.args.self.now = subst IsKept c.self.view_is c.self.invariant.kept in
     let w = c.args.self.now.written in
     let market : c.as_ref-market.result.now ≡ seat_market w = c.as_ref-market.ensures ∙ ap (λ (s : Seating). s.market) (c.self.view_is ∙ kept.made) in
     let places : c.deref.result.now ≡ places_taken w c.args.a.now.places.items = c.deref.ensures.value ∙ c.in_ok-places.ensures in

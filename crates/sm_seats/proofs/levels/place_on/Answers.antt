@@ -2,7 +2,7 @@ use Rattle.std.proofs.Common.{ℕ, get_or, ap, ◌∙◌, arith, inl, inr}
 use Rattle.std.proofs.lemmas.Bool.{cases_eq}
 use Rattle.sm_lists.specs.Rows.{place_on}
 use Rattle.sm_lists.proofs.PlaceLemmas.{get_or-place_on, place_on-le-at}
-use Rattle.sm_seats.proofs.levels.place_from.Goals as goal
+use Rattle.sm_seats.proofs.levels.place_on.Goals as goal
 
 pub loop-place-preserved : goal.loop-place-preserved
 loop-place-preserved c =

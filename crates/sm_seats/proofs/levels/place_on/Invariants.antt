@@ -1,6 +1,6 @@
 use Rattle.std.proofs.Common.{◌-◌, ◌≤◌, length}
 use Rattle.sm_lists.specs.Rows.{place_on}
-use Rattle.sm_seats.proofs.levels.place_from.Given as goal
+use Rattle.sm_seats.proofs.levels.place_on.Given as goal
 
 abbrev pub invariant-loop-place : goal.invariant-loop-place
 invariant-loop-place l = l.place ≤ place_on l.list l.r
