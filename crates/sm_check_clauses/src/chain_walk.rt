@@ -143,7 +143,7 @@ impl ChainWalk {
         }
         let moves = moves_of(alloc, market, &self.matching, rotation)?;
         self.moves.push(moves)?;
-        self.notes.note(market, &self.matching, rotation);
+        self.notes.note(market, &self.matching, rotation)?;
         self.search.go_on(market, &self.matching, rotation);
         eliminate(market, &mut self.matching, rotation);
         Ok(true)

@@ -1,14 +1,13 @@
 //! What each rotation of a chain needs: its predecessors, as far as the chain is known.
 
-ghost use Rattle.std.specs.Prelude.{◌≡◌, ◌≢◌, ℕ, ◌+◌, ◌-◌, ◌<◌, ◌≤◌, ◌^◌, ◌++◌, ◌∷◌, [], ◌↔◌, List, length, slice_index, IsTrue, IfOk, Contains};
+ghost use Rattle.std.specs.Prelude.{◌≡◌, ℕ, ◌+◌, ◌-◌, ◌<◌, ◌≤◌, ◌^◌, ◌++◌, ◌∷◌, [], ◌↔◌, List, length, slice_index, IsTrue, IfOk, OnOk, Contains};
 ghost use Rattle.sm_market.specs.Lists.{Lists, IsMarket, place_of, row};
 ghost use Rattle.sm_market.specs.Matching.{Places, IsMatching};
 ghost use Rattle.sm_market.specs.Pairing.{IsPairingOf};
-ghost use Rattle.sm_theory.specs.Rotations.{IsExposed, proposer_at, reviewer_at, target_at, next_in};
+ghost use Rattle.sm_theory.specs.Rotations.{IsExposed, proposer_at, target_at, next_in};
 ghost use Rattle.sm_theory.specs.Chains.{stage, AreNeedsOf};
-ghost use Rattle.sm_theory.specs.Marks.{marks_of, note_of, mark_at, IsBetween, AreMarksFor, AreMarked, IsFoundNeed, Adds};
+ghost use Rattle.sm_theory.specs.Marks.{note_of, IsBetween, AreMarksFor, AreMarked, IsFoundNeed, Adds};
 ghost use Rattle.sm_check_decide.specs.Noting.{IsNotesFor, AreNoted, AreNotesBelow};
-ghost use Rattle.sm_check_decide.specs.Trails.{IsTrail};
 
 use crate::trail::Trail;
 use sm_market::{Market, Pairing, next_in};
@@ -46,7 +45,7 @@ impl Model for Notes {
 impl Notes {
     /// Nothing is noted yet of a chain of at most so many rotations.
     ///
-    /// Takes time and memory in proportion to the agents, the entries and the rotations.
+    /// Takes time and memory in proportion to the proposers and the rotations.
     ///
     /// # Errors
     ///
@@ -67,26 +66,37 @@ impl Notes {
 
     /// Notes the next rotation of the chain, before it is eliminated, and finds what it needs.
     ///
-    /// The pairing has to be made for a market of these lists, and the rotation exposed at it. Takes no memory, and time in
-    /// proportion to the rotation and to the places by which it moves its proposers down and its reviewers up.
-    pub fn note(&mut self, market: &Market, m: &Pairing, rotation: &Rotation)
+    /// The pairing has to be made for a market of these lists, and the rotation exposed at it. Takes the time and the memory
+    /// of [`mark_span`] for each reviewer that it moves, and otherwise time in proportion to the rotation and to the places by
+    /// which it moves its proposers down.
+    ///
+    /// # Errors
+    ///
+    /// `AllocError` where memory ran out, and only then; nothing is said of what is noted then.
+    pub fn note(
+        &mut self,
+        market: &Market,
+        m: &Pairing,
+        rotation: &Rotation,
+    ) -> Result<(), AllocError>
         requires made { IsPairingOf market.now m.now }
         requires exposed { IsExposed market.now m.now.places rotation.now.pairs.items }
         requires notes { IsNotesFor market.now self.old }
         requires room { self.old.count < self.old.most }
-        ensures notes { IsNotesFor market.now self.new }
-        ensures most { self.new.most ≡ self.old.most }
-        ensures noted { (first : Places) (rotations : List (List (ℕ × ℕ)))
+        ensures notes { OnOk result (IsNotesFor market.now self.new) }
+        ensures most { OnOk result (self.new.most ≡ self.old.most) }
+        ensures noted { OnOk result ((first : Places) (rotations : List (List (ℕ × ℕ)))
             → AreNoted market.now first rotations self.old
             → m.now.places ≡ stage market.now first rotations (length rotations)
-            → AreNoted market.now first (rotations ++ rotation.now.pairs.items ∷ []) self.new }
+            → AreNoted market.now first (rotations ++ rotation.now.pairs.items ∷ []) self.new) }
     {
         prove!(self.count < self.found.bound());
         let pairs = rotation.pairs.as_slice();
         find(market, m, pairs, &self.last, &self.marks, &mut self.found);
-        mark_moves(market, m, pairs, self.count, &mut self.marks);
+        mark_moves(market, m, pairs, self.count, &mut self.marks)?;
         note_movers(pairs, self.count, &mut self.last);
         self.count += 1;
+        Ok(())
     }
 
     /// Whether these are the numbers of all predecessors of the newest rotation, rising; of no rotation there are none.
@@ -179,23 +189,29 @@ fn add(note: Option<u32>, found: &mut Trail)
 fn add_between(marks: &[Mark], from: u32, to: u32, found: &mut Trail)
     requires below { (x i : ℕ) → note_of marks.now x ≡ Some i → i < found.old.bound }
     requires down { from < to }
-    requires on_list { to ≤ length marks.now }
     ensures bound { found.new.bound ≡ found.old.bound }
     ensures added { Adds (λ i. IsBetween marks.now from to i) found.old.items found.new.items }
 {
-    for place in from + 1..to {
-        add(marks[place as usize].get(), found);
+    let end = marks.len().min(to as usize);
+    for place in from as usize + 1..end {
+        add(marks[place].get(), found);
     }
 }
 
 /// Marks with a rotation each entry over which it moves the entry's reviewer.
-fn mark_moves(market: &Market, m: &Pairing, pairs: &[(u32, u32)], j: u32, marks: &mut Marks)
+fn mark_moves(
+    market: &Market,
+    m: &Pairing,
+    pairs: &[(u32, u32)],
+    j: u32,
+    marks: &mut Marks,
+) -> Result<(), AllocError>
     requires made { IsPairingOf market.now m.now }
     requires exposed { IsExposed market.now m.now.places pairs.now }
     requires number { j + 1 < 2 ^ 32 }
     requires for_entries { AreMarksFor market.now marks.old }
-    ensures marked { AreMarked market.now pairs.now (length pairs.now) j marks.old
-        marks.new }
+    ensures marked { OnOk result (AreMarked market.now pairs.now (length pairs.now) j marks.old
+        marks.new) }
     ensures market { IsMarket market.now }
 {
     prove!(market.proposers() < 1 << 24);
@@ -205,8 +221,9 @@ fn mark_moves(market: &Market, m: &Pairing, pairs: &[(u32, u32)], j: u32, marks:
             better,
             worse,
         } = passed_span(market, m, pairs, i);
-        mark_span(market, reviewer, better, worse, j, marks);
+        mark_span(market, reviewer, better, worse, j, marks)?;
     }
+    Ok(())
 }
 
 /// Those past whom a reviewer is moved: the entries of its list behind one place and before another, counted from 0.

@@ -67,10 +67,6 @@ module _ {l : Lists} (h : IsMarket l) {rotation : List (ℕ × ℕ)} {before aft
   pub down : (footing_at before i).proposer < (footing_at after i).proposer
   down = let next = (exposed_of h w.matching w.exposed).next i a in omega (arith, w.before_are.proposer i a, to_is, next.behind)
 
-  -- and a place of it
-  pub on_list : (footing_at after i).proposer < length (row l.proposers (proposer_at rotation i))
-  on_list = omega (arith, to_is, (w.exposed.next i a).on_list)
-
   -- and these go up from their proposers to those
   pub worse_is : (footing_at before i).reviewer ≡ place_of l.reviewers (target_at rotation i) (proposer_at rotation (next_in rotation i))
   worse_is =

@@ -3,7 +3,7 @@ use Rattle.std.proofs.Common.{◌≡◌, ℕ, ◌+◌, ◌<◌, ◌⊎◌, inl, 
 use Rattle.sm_lists.proofs.Counting.{eq_or_ne}
 use Rattle.sm_theory.specs.Rotations.{proposer_at}
 -- writing and collecting, passed on
-pub use Rattle.sm_theory.proofs.Chains.Marking.{marked_step, adds_join, adds_like, between_wider, between_split}
+pub use Rattle.sm_theory.proofs.Chains.Marking.{marked_step, adds_join, adds_like, added_to_end, between_wider, between_split}
 use Rattle.sm_rotations.specs.Marking.{note_of, marks_of, IsBetween, Adds}
 use Rattle.sm_rotations.specs.Footings.{footing_at, IsFoundAlong}
 use Rattle.sm_market.specs.declared.footing.Footing.{Footing}

@@ -12,7 +12,6 @@ use Rattle.sm_theory.proofs.Core.Cycle.{Succ, turn_last, turn_more}
 use Rattle.sm_theory.proofs.Core.Rotation.{goes_down, never_up, keeps, never_worse, elim_fit}
 use Rattle.sm_theory.proofs.Core.Dichotomy.{step, step_on}
 use Rattle.sm_theory.proofs.Bridge.Rotation.{succ_back, exposed_of, elim_of, eliminated_stable}
-use Rattle.sm_successors.proofs.NextLemmas.{first_is}
 use Rattle.sm_rotations.proofs.FollowingLemmas.{pair_of_held, succ_at}
 use Rattle.sm_rotations.specs.Walking.{IsNext, IsAtWorst, IsStack, AreStackPairs, spot_of}
 use Rattle.sm_theory.proofs.Chains.Links.{successor_once}

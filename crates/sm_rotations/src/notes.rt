@@ -1,12 +1,12 @@
 //! What is noted of the rotations of a chain, as they are eliminated one after another.
 
-ghost use Rattle.std.specs.Prelude.{◌≡◌, ℕ, ◌+◌, ◌<◌, ◌≤◌, ◌^◌, ◌++◌, ◌∷◌, List, length, IfOk, OnOk, Some, []};
+ghost use Rattle.std.specs.Prelude.{◌≡◌, ℕ, ◌+◌, ◌<◌, ◌^◌, ◌++◌, ◌∷◌, List, length, IfOk, OnOk, Some, []};
 ghost use Rattle.sm_market.specs.Lists.{IsMarket};
 ghost use Rattle.sm_market.specs.Matching.{Places, IsMatching};
 ghost use Rattle.sm_market.specs.Pairing.{IsPairingOf};
 ghost use Rattle.sm_theory.specs.Rotations.{IsExposed, proposer_at, eliminated};
 ghost use Rattle.sm_theory.specs.Chains.{stage};
-ghost use Rattle.sm_rotations.specs.Marking.{marks_of, AreMarksFor, AreMarked, IsBetween, Adds};
+ghost use Rattle.sm_rotations.specs.Marking.{AreMarksFor, AreMarked, IsBetween, Adds};
 ghost use Rattle.sm_rotations.specs.Footings.{footing_at, AreSteps, AreTargetPlaces, IsFoundAlong};
 ghost use Rattle.sm_rotations.specs.Noting.{AreNoted, IsNotedUpTo};
 
@@ -38,7 +38,7 @@ pub(crate) struct Notes {
 }
 
 impl Notes {
-    /// Nothing is noted yet. Takes time and memory in proportion to the agents and entries.
+    /// Nothing is noted yet. Takes time and memory in proportion to the proposers.
     pub(crate) fn of(alloc: Global, market: &Market) -> Result<Notes, AllocError>
         ensures { IfOk result (λ notes. (first : Places) → IsMatching market.now first
             → AreNoted market.now first [] notes) }
@@ -104,7 +104,7 @@ impl Notes {
             &self.after,
             number,
             &mut self.marks,
-        );
+        )?;
         Ok(())
     }
 
@@ -133,9 +133,6 @@ fn find(
         < length marks.now }
     requires down { (i : ℕ) → i < length pairs.now → (footing_at before.now i).proposer
         < (footing_at after.now i).proposer }
-    requires on_list { (i : ℕ) → i < length pairs.now
-        → (footing_at after.now i).proposer
-        ≤ length (marks_of marks.now (proposer_at pairs.now i)) }
     ensures { OnOk result (Adds
         (λ i. IsFoundAlong pairs.now before.now after.now (length pairs.now) last.now
         marks.now i)
@@ -153,12 +150,12 @@ fn find(
 /// Adds the rotations that are marked behind one place and before another.
 fn add_between(marks: &[Mark], from: u32, to: u32, found: &mut Vec<u32>) -> Result<(), AllocError>
     requires down { from < to }
-    requires on_list { to ≤ length marks.now }
     ensures { OnOk result (Adds (λ i. IsBetween marks.now from to i) found.old.items
         found.new.items) }
 {
-    for place in from + 1..to {
-        add(marks[place as usize].get(), found)?;
+    let end = marks.len().min(to as usize);
+    for place in from as usize + 1..end {
+        add(marks[place].get(), found)?;
     }
     Ok(())
 }
@@ -183,16 +180,17 @@ fn mark_moves(
     after: &[Footing],
     j: u32,
     marks: &mut Marks,
-)
+) -> Result<(), AllocError>
     requires market { IsMarket market.now }
     requires moved { AreSteps market.now pairs.now before.now after.now }
     requires number { j + 1 < 2 ^ 32 }
     requires for_entries { AreMarksFor market.now marks.old }
-    ensures { AreMarked market.now pairs.now (length pairs.now) j marks.old
-        marks.new }
+    ensures { OnOk result (AreMarked market.now pairs.now (length pairs.now) j marks.old
+        marks.new) }
 {
     for i in 0..pairs.len() {
         let r = pairs[next_in(i, pairs.len())].1;
-        mark_span(market, r, after[i].reviewer, before[i].reviewer, j, marks);
+        mark_span(market, r, after[i].reviewer, before[i].reviewer, j, marks)?;
     }
+    Ok(())
 }

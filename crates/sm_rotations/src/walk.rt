@@ -50,7 +50,9 @@ struct WalkStack {
 /// finished too (Gusfield and Irving 1989, chapter 3, in a form of this project's own).
 ///
 /// A rotation begins with that proposer of it that was put on the stack first, and each one is noted as it is eliminated. Each
-/// entry of the market is passed at most once, so the time is in proportion to the agents and entries. So is the memory.
+/// entry of the market is passed at most once, so the time is in proportion to the agents and entries. The memory is in
+/// proportion to the proposers, the pairs of the rotations, what each rotation needs, and those proposers' lists on which a
+/// reviewer is moved past the list's owner.
 ///
 /// # Errors
 ///

@@ -1,6 +1,7 @@
 -- What is noted of the rotations of a chain, one after another, and tells what each one needs: which one moved each proposer
 -- last, and which one moved a reviewer past each proposer of its list.
-use Rattle.std.specs.Prelude.{◌≡◌, ℕ, ◌<◌, ◌⊎◌, List, [], Option, Some, None, IsSome, length, slice_index_or, Contains}
+use Rattle.std.specs.Prelude.{◌≡◌, ℕ, ◌<◌, ◌⊎◌, List, [], Option, Some, None, IsSome, Vec, length, map, slice_index_or, Contains}
+use Rattle.std.specs.declared.alloc.Global.{Global}
 use Rattle.sm_market.specs.Lists.{Lists, row, entry, place_of}
 use Rattle.sm_theory.specs.Rotations.{proposer_at, reviewer_at, target_at, next_in}
 use Rattle.sm_theory.specs.Chains.{rotation_at}
@@ -8,6 +9,10 @@ use Rattle.sm_theory.specs.Chains.{rotation_at}
 -- what is noted of p
 abbrev pub note_of : List (Option ℕ) → ℕ → Option ℕ
 note_of notes p = slice_index_or notes p None
+
+-- marks that are held in vectors, one for each proposer
+abbrev pub marks_in : List (Vec (Option ℕ) Global) → List (List (Option ℕ))
+marks_in rows = map (λ v. v.items) rows
 
 -- the marks of p's list, and the one at place x
 abbrev pub marks_of : List (List (Option ℕ)) → ℕ → List (Option ℕ)
@@ -39,10 +44,10 @@ pub record AreLastMoves (rotations : List (List (ℕ × ℕ))) (n : ℕ) (notes 
   pub last : (p i k : ℕ) → note_of notes p ≡ Some i → i < k → k < n → ¬ Moves (rotation_at rotations k) (length (rotation_at rotations k)) p
   pub noted : (p i : ℕ) → i < n → Moves (rotation_at rotations i) (length (rotation_at rotations i)) p → IsSome (note_of notes p)
 
--- there is a mark for each entry of the proposers' lists
+-- for each of the proposers' lists there is a mark for each entry, or no mark at all
 pub record AreMarksFor (l : Lists) (marks : List (List (Option ℕ))) : Type 0 where
   pub one_each : length marks ≡ length l.proposers
-  pub as_long : (p : ℕ) → length (marks_of marks p) ≡ length (row l.proposers p)
+  pub as_long : (p : ℕ) → 0 < length (marks_of marks p) → length (marks_of marks p) ≡ length (row l.proposers p)
 
 -- each entry over which one of the first n rotations moves its reviewer is marked with that rotation
 pub record AreMarks (l : Lists) (rotations : List (List (ℕ × ℕ))) (n : ℕ) (marks : List (List (Option ℕ))) : Type 0 where
@@ -87,6 +92,12 @@ pub record IsPassedBy (l : Lists) (rotation : List (ℕ × ℕ)) (n : ℕ) (mark
 -- what the first n pairs of a rotation are found to need
 abbrev pub IsFoundNeed : Lists → List (ℕ × ℕ) → ℕ → List (Option ℕ) → List (List (Option ℕ)) → ℕ → Type 0
 IsFoundNeed l rotation n notes marks i = IsLastOf rotation n notes i ⊎ IsPassedBy l rotation n marks i
+
+-- the entry at place x of p's list gets a mark, and all else stays
+pub record IsEntryMarked (l : Lists) (p x : ℕ) (mark : Option ℕ) (before after : List (List (Option ℕ))) : Type 0 where
+  pub for_entries : AreMarksFor l after
+  pub marked : mark_at after p x ≡ mark
+  pub only : (q y : ℕ) → (mark_at after q y ≡ mark_at before q y) ⊎ ((q ≡ p) × (y ≡ x))
 
 -- r stands at place x of p's list, and p on r's list behind the place `better` and before the place `worse`
 pub record IsSpan (l : Lists) (r better worse p x : ℕ) : Type 0 where

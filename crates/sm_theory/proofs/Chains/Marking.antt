@@ -1,14 +1,14 @@
 -- Writing notes and marks, one after another, and collecting them.
-use Rattle.std.proofs.Common.{◌≡◌, ℕ, zero, suc, ◌+◌, ◌<◌, ◌≤◌, ◌⊎◌, inl, inr, arith, refl, sym, ap, ◌∙◌, List, [], ◌∷◌, ◌++◌, length, Option, None, Some, replicate, slice_index_or}
+use Rattle.std.proofs.Common.{◌≡◌, ◌≢◌, ℕ, zero, suc, ◌+◌, ◌<◌, ◌≤◌, ◌⊎◌, inl, inr, arith, refl, sym, ap, ◌∙◌, List, [], ◌∷◌, ◌++◌, length, min, Option, None, Some, replicate, set, slice_index_or}
 use Rattle.std.specs.List.{Contains}
-use Rattle.std.proofs.lemmas.List.{get_or_past, get_or-replicate, length-replicate}
+use Rattle.std.proofs.lemmas.List.{get_or_past, get_or-replicate, get_or-set_same, get_or-set_other, length-replicate, length-set}
 use Rattle.std.proofs.lemmas.List.Elements.{Contains-append_left, Contains-append_right, Contains-append_cases}
 use Rattle.sm_market.specs.Lists.{Lists, row, entry, place_of, IsMarket}
 use Rattle.sm_lists.proofs.Counting.{lt_or_le, eq_or_ne}
 use Rattle.sm_market.proofs.PlaceLemmas.{place_of-entry}
 use Rattle.sm_lists.proofs.PlaceLemmas.{entry-place_of}
 use Rattle.sm_theory.specs.Rotations.{proposer_at, target_at, next_in}
-use Rattle.sm_theory.specs.Marks.{note_of, mark_at, MovesOver, AreLastMoves, AreMarksFor, AreMarks, AreMarked, IsBetween, IsSpan, IsSpanMarked, Adds}
+use Rattle.sm_theory.specs.Marks.{note_of, marks_of, mark_at, MovesOver, AreLastMoves, AreMarksFor, AreMarks, AreMarked, IsBetween, IsEntryMarked, IsSpan, IsSpanMarked, Adds}
 
 module _ {l : Lists} (h : IsMarket l) where
   returns_to : (r k : ℕ) → k < length (row l.reviewers r) → let p = entry l.reviewers r k in place_of l.proposers p r < length (row l.proposers p)
@@ -131,6 +131,18 @@ adds_like forth back a = record {
   only = λ i w. elim (a.only i w) [ inl v ↦ inl v | inr v ↦ inr (forth i v) ];
 }
 
+-- what is marked up to the end of a row is all that is marked
+pub added_to_end : {marks : List (Option ℕ)} {from k to : ℕ} {xs ys : List ℕ} → k ≤ to → min (length marks) to ≤ k → Adds (λ i. IsBetween marks from k i) xs ys → Adds (λ i. IsBetween marks from to i) xs ys
+added_to_end {marks} {from} {k} {to} within end a = adds_like
+    (λ i w. record { place = w.place; behind = w.behind; before = omega (arith, w.before); marked = w.marked })
+    (λ i w. elim (lt_or_le w.place k) [
+      | inl less ↦ record { place = w.place; behind = w.behind; before = less; marked = w.marked }
+      | inr more ↦
+          let none : note_of marks w.place ≡ None = get_or_past marks w.place None (omega (arith, w.before)) in
+          let some : note_of marks w.place ≡ Some i = w.marked in absurd cc
+    ])
+    a
+
 -- nothing noted and nothing marked
 pub last_start : (rotations : List (List (ℕ × ℕ))) (notes : List (Option ℕ)) → ((p : ℕ) → note_of notes p ≡ None) → AreLastMoves rotations 0 notes
 last_start rotations notes none = record {
@@ -155,3 +167,80 @@ note_of-replicate n p = elim (lt_or_le p n) [
   | inl h ↦ get_or-replicate n p None None h
   | inr h ↦ get_or_past (replicate n None) p None (omega (arith, length-replicate {A = Option ℕ} n None))
 ]
+
+-- where all rows are empty, nothing is marked
+pub none_marked : {marks : List (List (Option ℕ))} (n p x : ℕ) → marks ≡ replicate n [] → mark_at marks p x ≡ None
+none_marked {marks} n p x e = ap (λ (row : List (Option ℕ)). note_of row x) (ap (λ (rows : List (List (Option ℕ))). marks_of rows p) e ∙ empty)
+  where
+    empty : marks_of (replicate n []) p ≡ []
+    empty = elim (lt_or_le p n) [
+      | inl h ↦ get_or-replicate n p [] [] h
+      | inr h ↦ get_or_past (replicate n []) p [] (omega (arith, length-replicate {A = List (Option ℕ)} n []))
+    ]
+
+-- a row has the marks of p's row, and one for each entry of p's list
+pub record IsRowFor (l : Lists) (p : ℕ) (marks : List (List (Option ℕ))) (made : List (Option ℕ)) : Type 0 where
+  pub as_long : length made ≡ length (row l.proposers p)
+  pub same : (x : ℕ) → note_of made x ≡ note_of (marks_of marks p) x
+
+-- so does one that was made with no mark, where there was none
+pub row_for_made : {l : Lists} {p : ℕ} {marks : List (List (Option ℕ))} {made : List (Option ℕ)} → marks_of marks p ≡ [] → made ≡ replicate (length (row l.proposers p)) None → IsRowFor l p marks made
+row_for_made {l} {p} {marks} {made} empty is = record {
+  as_long = ap length is ∙ length-replicate (length (row l.proposers p)) None;
+  same = λ x. rw (empty, is) (note_of-replicate (length (row l.proposers p)) x);
+}
+
+-- and p's row itself, where it has any
+pub row_for_old : {l : Lists} {p : ℕ} {marks : List (List (Option ℕ))} {made : List (Option ℕ)} → AreMarksFor l marks → marks_of marks p ≡ made → 0 < length made → IsRowFor l p marks made
+row_for_old {p = p} {marks} f is some = record {
+  as_long = rw is at (f.as_long p (rw is some));
+  same = λ x. rw is refl;
+}
+
+-- such a row comes in the place of p's row with one mark more
+pub entry_marked : {l : Lists} {p x : ℕ} {mark : Option ℕ} {marks : List (List (Option ℕ))} {made : List (Option ℕ)} → p < length l.proposers → x < length (row l.proposers p) → AreMarksFor l marks → IsRowFor l p marks made
+    → IsEntryMarked l p x mark marks (set marks p (set made x mark))
+entry_marked {l} {p} {x} {mark} {marks} {made} in_range on_list f new = record {
+  for_entries = record {
+    one_each = length-set marks p (set made x mark) ∙ f.one_each;
+    as_long = λ q some. elim (eq_or_ne q p) [
+      | inl e ↦ rw (e, here) (length-set made x mark ∙ new.as_long)
+      | inr ne ↦ rw (there q ne) (f.as_long q (rw (there q ne) at some))
+    ];
+  };
+  marked = rw here (get_or-set_same made x mark None (omega (arith, new.as_long)));
+  only = λ q y. elim (eq_or_ne q p) [
+    | inr ne ↦ inl (ap (λ (row : List (Option ℕ)). note_of row y) (there q ne))
+    | inl e ↦ elim (eq_or_ne y x) [
+      | inl e' ↦ inr (e, e')
+      | inr ne ↦ inl (rw (e, here) (get_or-set_other made x y mark None ne ∙ new.same y))
+    ]
+  ];
+}
+  where
+    here : marks_of (set marks p (set made x mark)) p ≡ set made x mark
+    here = get_or-set_same marks p (set made x mark) [] (omega (arith, f.one_each))
+
+    there : (q : ℕ) → q ≢ p → marks_of (set marks p (set made x mark)) q ≡ marks_of marks q
+    there q ne = get_or-set_other marks p q (set made x mark) [] ne
+
+-- the entries of a span up to one more place of r's list are marked
+pub span_more : {l : Lists} {r better k j p x : ℕ} {before marks after : List (List (Option ℕ))} → better < k → p ≡ entry l.reviewers r k → x ≡ place_of l.proposers (entry l.reviewers r k) r
+    → IsSpanMarked l r better k j before marks → IsEntryMarked l p x (Some j) marks after → IsSpanMarked l r better (k + 1) j before after
+span_more {l} {r} {better} {k} {j} {p} {x} {before} {marks} {after} low named at s e = record {
+  for_entries = e.for_entries;
+  marked = λ q y w. elim (e.only q y) [
+    | inr same ↦ rw (same.0, same.1) e.marked
+    | inl same ↦ elim (eq_or_ne w.place k) [
+      | inl is ↦ rw (w.proposer, w.at, w.proposer, is, ← at, ← named) e.marked
+      | inr ne ↦ same ∙ s.marked q y (record { place = w.place; behind = w.behind; before = omega (arith, w.before); proposer = w.proposer; at = w.at })
+    ]
+  ];
+  only = λ q y. elim (e.only q y) [
+    | inr same ↦ inr (rw (same.0, same.1) e.marked, record { place = k; behind = low; before = omega arith; proposer = same.0 ∙ named; at = rw (same.0, named) (same.1 ∙ at) })
+    | inl same ↦ elim (s.only q y) [
+      | inl same' ↦ inl (same ∙ same')
+      | inr w ↦ inr (same ∙ w.0, record { place = w.1.place; behind = w.1.behind; before = omega (arith, w.1.before); proposer = w.1.proposer; at = w.1.at })
+    ]
+  ];
+}

@@ -5,4 +5,4 @@ pub loop-i-preserved : goal.loop-i-preserved
 loop-i-preserved c =
     let span = c.passed_span-reviewer.result in
     let passed = c.passed_span-reviewer.ensures in
-    marked_step passed.market span.reviewer span.better span.worse passed.reviewer passed.better passed.worse passed.on_list c.loop-i.invariant c.mark_span.ensures
+    marked_step passed.market span.reviewer span.better span.worse passed.reviewer passed.better passed.worse passed.on_list c.loop-i.invariant c.in_ok-mark_span.ensures

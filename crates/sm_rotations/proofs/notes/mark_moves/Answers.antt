@@ -28,4 +28,4 @@ loop-i-preserved c =
     (better_is h w c.loop-i.i c.loop-i-test.true)
     (worse_is h w c.loop-i.i c.loop-i-test.true)
     (rw target (worse_on h w c.loop-i.i c.loop-i-test.true))
-    c.loop-i.invariant c.mark_span.ensures
+    c.loop-i.invariant c.in_ok-mark_span.ensures

@@ -16,4 +16,4 @@ returns c = λ first rotations k.
     (subst (AreChainMoves c.args.market.now (rotations ++ c.args.rotation.now.pairs.items ∷ []))
     (sym (ap moves_in c.in_ok-push.ensures.items ∙ map_push (λ (v : Vec Move Global). v.items) c.args.self.now.moves.items c.in_ok-moves.moves))
     (moves_more k.moves c.args.rotation.now.pairs.items c.in_ok-moves.moves.items c.in_ok-moves.ensures.moves c.in_ok-moves.ensures.on_lists)) (c.if-not-is_lowest_exposed.ensures.decided.0 refl) c.go_on.ensures c.eliminate.ensures.made c.eliminate.ensures.moved (c.eliminate.ensures.stable k.stable)
-    c.note.ensures.notes c.note.ensures.most (c.note.ensures.noted first rotations k.noted k.reached) refl
+    c.in_ok-note.ensures.notes c.in_ok-note.ensures.most (c.in_ok-note.ensures.noted first rotations k.noted k.reached) refl

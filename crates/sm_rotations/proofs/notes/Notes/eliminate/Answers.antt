@@ -4,12 +4,11 @@ use Rattle.std.specs.declared.alloc.Global.{Global}
 use Rattle.std.proofs.lemmas.List.{length-map, length_push, map_push}
 use Rattle.sm_lists.proofs.ResultLemmas.{take-append_at_length}
 use Rattle.sm_market.specs.Vectors.{rows_of}
-use Rattle.sm_theory.specs.Rotations.{proposer_at}
 use Rattle.sm_rotations.specs.Graph.{AreAddedTo}
 use Rattle.sm_rotations.specs.Marking.{AreMoved, AreMarked, IsFoundNeed, Adds}
 use Rattle.sm_rotations.specs.Footings.{AreSteps, IsFoundAlong}
 use Rattle.sm_rotations.proofs.CountLemmas.{few_eliminable}
-use Rattle.sm_rotations.proofs.FootingLemmas.{down, on_list, found_of_along, along_of_found}
+use Rattle.sm_rotations.proofs.FootingLemmas.{down, found_of_along, along_of_found}
 use Rattle.sm_rotations.proofs.MarkingLemmas.{adds_like}
 use Rattle.sm_rotations.proofs.NotingLemmas.{followers_longer, found_within, noted_more}
 use Rattle.sm_rotations.proofs.TurnedBackLemmas.{followers_lower}
@@ -30,11 +29,6 @@ mark_moves-requires-clause-number c =
 pub find-requires-clause-down : goal.find-requires-clause-down
 find-requires-clause-down c =
     rw (c.deref.ensures.value, c.deref-2.ensures.value, c.as_slice-pairs.ensures.value) (λ i a. down c.proposers.ensures.market c.in_ok-step.ensures.steps i a)
-
-pub find-requires-clause-on_list : goal.find-requires-clause-on_list
-find-requires-clause-on_list c =
-    rw (c.deref-2.ensures.value, c.as_slice-pairs.ensures.value)
-    (λ i a. omega (arith, on_list c.proposers.ensures.market c.in_ok-step.ensures.steps i a, c.requires.noted.noted.marks.for_entries.as_long (proposer_at c.args.rotation.now.pairs.items i)))
 
 pub add_once-requires-clause-in_range : goal.add_once-requires-clause-in_range
 add_once-requires-clause-in_range c =
@@ -75,7 +69,7 @@ returns-clause-noted c = λ first rotations n is.
     let followers_are : (with_items c.push.new.self c.add_once.new.lists).items ≡ c.add_once.new.lists = take-append_at_length c.push.new.self.len c.add_once.new.lists _ (let auto = c.add_once.auto.lists in let len = c.deref_mut.ensures.len in omega arith) in
     let moved : AreMoved pairs (length pairs) (length rotations) c.args.self.now.last.items (with_items c.args.self.now.last c.note_movers.new.last).items =
     rw last_is (rw (c.as_slice-pairs.ensures.value, c.deref_mut-2.ensures.value, number) at c.note_movers.ensures) in
-    let marked : AreMarked c.args.market.now pairs (length pairs) (length rotations) c.args.self.now.marks c.mark_moves.new.marks = rw (c.as_slice-pairs.ensures.value, number) at c.mark_moves.ensures in
+    let marked : AreMarked c.args.market.now pairs (length pairs) (length rotations) c.args.self.now.marks c.mark_moves.new.marks = rw (c.as_slice-pairs.ensures.value, number) at c.in_ok-mark_moves.ensures in
     let added : AreAddedTo (length rotations) c.find.new.found.items (rows_of c.args.self.now.followers.items ++ [] ∷ []) (rows_of (with_items c.push.new.self c.add_once.new.lists).items) =
     rw followers_are (rw (c.deref-4.ensures.value, rows, number) at c.in_ok-add_once.ensures) in
     noted_more n.eliminable is pairs c.requires.exposed h n found _ moved marked added
