@@ -4,4 +4,3 @@ pub mod AcceptEnds
 pub mod ReducedLemmas
 pub mod LinkLemmas
 pub mod LinkSteps
-pub mod FrontLemmas

@@ -1,21 +1,19 @@
 -- What is left between two pairings, and that every stable pair is.
-use Rattle.std.proofs.Common.{◌≡◌, ℕ, zero, suc, ◌+◌, ◌-◌, ◌<◌, ◌≤◌, ◌⊎◌, inl, inr, arith, refl, sym, ap, ◌∙◌, Bool, true, false, ◌&&◌, cond, List, [], ◌∷◌, ◌++◌, Option, Some, None, MatchOption, length, map, take, set, replicate, unwrap_or, get_or}
-use Rattle.std.specs.List.{filter, range_with_len, Contains}
-use Rattle.std.proofs.lemmas.Bool.{le-leb, lt-leb, and_right}
-use Rattle.std.proofs.lemmas.List.{append-nil, ext_get_or, get_or-replicate, get_or-set_same, get_or-set_other, length-replicate, length-set}
+use Rattle.std.proofs.Common.{◌≡◌, ℕ, zero, suc, ◌+◌, ◌-◌, ◌<◌, ◌≤◌, inl, inr, arith, refl, sym, ap, ◌∙◌, Bool, true, false, ◌&&◌, cond, List, [], ◌∷◌, ◌++◌, Option, Some, None, MatchOption, length, take, take_all, get_or}
+use Rattle.std.specs.List.{filter, Contains}
+use Rattle.std.proofs.lemmas.Bool.{le-leb, lt-leb}
+use Rattle.std.proofs.lemmas.List.{append-nil}
 use Rattle.std.proofs.lemmas.List.Elements.{filter_more}
-use Rattle.std.proofs.lemmas.List.FromFn.{get_or-map-range_with_len, length-map-range_with_len}
+use Rattle.std.proofs.lemmas.List.FromFn.{get_or-map-range_with_len}
 use Rattle.std.proofs.lemmas.Option.{none-some}
 use Rattle.sm_market.specs.Lists.{Lists, row, entry, place_of, IsMarket}
 use Rattle.sm_market.specs.Matching.{Places, held}
 use Rattle.sm_market.specs.Stable.{IsStable, IsProposersBest, IsReviewersBest}
 use Rattle.sm_market.specs.Reduced.{is_no_worse, reduced_row, reduced_lists_of}
-use Rattle.sm_market.proofs.Bridge.{held_cases, HoldsNone, HoldsPlace, standing-some}
-use Rattle.sm_lists.proofs.Counting.{lt_or_le, eq_or_ne}
+use Rattle.sm_market.proofs.Bridge.{held_cases, standing-some}
 use Rattle.sm_market.proofs.LawsProved.{same_agents, proposers_best_is_worst}
 use Rattle.sm_market.proofs.PlaceLemmas.{place_of-entry}
 use Rattle.sm_lists.proofs.RowLemmas.{row_in_range}
-use Rattle.sm_accept.specs.Linking.{HoldsPair, IsFirstHeld, IsHeldBehind, AreReducedEnds}
 use Rattle.sm_accept.specs.Reducing.{KeepsStablePairs}
 
 -- two tests pass together in either order
@@ -52,92 +50,21 @@ filter_to test xs i k le on fails =
     let e : i + (k - i) ≡ k = omega arith in
     rw e at (filter_skip test xs i (k - i) (omega arith) (λ j a b. fails j a (omega arith)))
 
--- whoever stands behind the front of a reviewer's list isn't kept
-pub not_front_fails : {l : Lists} {first : Places} (last : Places) {ends : List ℕ} → AreReducedEnds l first ends → (p j : ℕ) → j < length (row l.proposers p) → ¬ HoldsPair l ends p j
-    → let r = entry l.proposers p j in (is_no_worse l.proposers last.proposers p r && is_no_worse l.reviewers first.reviewers r p) ≡ false
-not_front_fails {l} {first} last {ends} f p j on out = and_right (is_no_worse l.proposers last.proposers p r) (is_no_worse l.reviewers first.reviewers r p) (worse (held_cases l.reviewers first.reviewers r))
-  where
-    r : ℕ
-    r = entry l.proposers p j
-
-    behind : (k : ℕ) → held first.reviewers r ≡ Some k → k < place_of l.reviewers r p
-    behind k e = elim (lt_or_le k (place_of l.reviewers r p)) [
-      | inl less ↦ less
-      | inr le ↦ absurd (out (record { on_list = on; in_front = omega (arith, f.matched r k e) }))
-    ]
-
-    worse : HoldsNone l.reviewers first.reviewers r ⊎ HoldsPlace l.reviewers first.reviewers r → is_no_worse l.reviewers first.reviewers r p ≡ false
-    worse (inl v) = rw v.held_is refl
-    worse (inr v) = rw v.held_is (lt-leb (place_of l.reviewers r p) v.place (behind v.place v.held_is))
-
--- whom a proposer keeps of its list, once its held places are walked up to the next one, or to the end
-abbrev pub kept_of : Lists → (first last : Places) → ℕ → ℕ → Bool
-kept_of l first last p = λ r. is_no_worse l.proposers last.proposers p r && is_no_worse l.reviewers first.reviewers r p
-
--- what is kept so far is what is to be kept of the front before the next held place
-pub record IsKeptTo (l : Lists) (first last : Places) (ends : List ℕ) (p : ℕ) (next : Option ℕ) (kept : List ℕ) : Type 0 where
-  pub so_far : kept ≡ filter (kept_of l first last p) (take (unwrap_or next (length (row l.proposers p))) (row l.proposers p))
-  pub held : MatchOption next (Unit {0}) (λ i. HoldsPair l ends p i)
-
-module _ {l : Lists} {first last : Places} {ends : List ℕ} {p : ℕ} (f : AreReducedEnds l first ends) where
-  -- no place from `from` on is held before the next one
-  kept_on : (from : ℕ) (next : Option ℕ) (kept : List ℕ) → from ≤ unwrap_or next (length (row l.proposers p)) → unwrap_or next (length (row l.proposers p)) ≤ length (row l.proposers p)
-      → ((j : ℕ) → from ≤ j → j < unwrap_or next (length (row l.proposers p)) → ¬ HoldsPair l ends p j) → MatchOption next (Unit {0}) (λ i. HoldsPair l ends p i)
-      → kept ≡ filter (kept_of l first last p) (take from (row l.proposers p)) → IsKeptTo l first last ends p next kept
-  kept_on from next kept le on none held is = record {
-    so_far = is ∙ sym (filter_to (kept_of l first last p) (row l.proposers p) from (unwrap_or next (length (row l.proposers p))) le on
-        (λ j a b. not_front_fails last f p j (omega arith) (none j a b)));
-    held = held;
-  }
-
-  -- before the first held place nothing is kept
-  pub kept_first : (next : Option ℕ) (kept : List ℕ) → kept ≡ [] → MatchOption next ((i : ℕ) → ¬ HoldsPair l ends p i) (λ i. IsFirstHeld l ends p i) → IsKeptTo l first last ends p next kept
-  kept_first None kept is none = kept_on 0 None kept (omega arith) (omega arith) (λ j a b. none j) tt is
-  kept_first (Some i) kept is w = kept_on 0 (Some i) kept (omega arith) (omega (arith, w.held.on_list)) (λ j a b. w.earlier j b) w.held is
-
-  -- the item at a held place is kept or not, and the next held place comes
-  pub kept_next : (i x : ℕ) (t : Bool) (before after : List ℕ) (next : Option ℕ) → IsKeptTo l first last ends p (Some i) before → x ≡ entry l.proposers p i → t ≡ kept_of l first last p x
-      → after ≡ before ++ cond t (x ∷ []) [] → MatchOption next ((k : ℕ) → i < k → ¬ HoldsPair l ends p k) (λ k. IsHeldBehind l ends p i k) → IsKeptTo l first last ends p next after
-  kept_next i x t before after next w is tested added behind = go next behind
+-- nobody behind the partner that an agent has at its worst stays on its list, and nobody stays on that of an unmatched one
+module _ (rows others : List (List ℕ)) (worst theirs : List (Option ℕ)) (a : ℕ) where
+  behind_fails : (n j : ℕ) → place_of rows a (entry rows a j) ≡ j → MatchOption (held worst a) (n ≡ 0) (λ place. n ≡ place + 1) → n ≤ j → is_no_worse rows worst a (entry rows a j) ≡ false
+  behind_fails n j sound ends from = go (held worst a) refl ends
     where
-      step : after ≡ filter (kept_of l first last p) (take (i + 1) (row l.proposers p))
-      step = filter_step (kept_of l first last p) (row l.proposers p) i x t before after w.held.on_list is tested w.so_far added
+      go : (o : Option ℕ) → held worst a ≡ o → MatchOption o (n ≡ 0) (λ place. n ≡ place + 1) → is_no_worse rows worst a (entry rows a j) ≡ false
+      go None is _ = rw is refl
+      go (Some place) is ends = rw is (lt-leb (place_of rows a (entry rows a j)) place (omega arith))
 
-      go : (next : Option ℕ) → MatchOption next ((k : ℕ) → i < k → ¬ HoldsPair l ends p k) (λ k. IsHeldBehind l ends p i k) → IsKeptTo l first last ends p next after
-      go None none = kept_on (i + 1) None after (omega (arith, w.held.on_list)) (omega arith) (λ j a b. none j (omega arith)) tt step
-      go (Some k) v = kept_on (i + 1) (Some k) after (omega (arith, v.behind)) (omega (arith, v.held.on_list)) (λ j a b. v.between j (omega arith) b) v.held step
-
--- one list of several is filled
-pub record AreFilled (count : ℕ) (full : ℕ → List ℕ) (n : ℕ) (rows : List (List ℕ)) : Type 0 where
-  pub one_each : length rows ≡ count
-  pub filled : (q : ℕ) → q < n → q < count → row rows q ≡ full q
-  pub left : (q : ℕ) → n ≤ q → q < count → row rows q ≡ []
-
--- at first no list is filled
-pub none_filled : (count : ℕ) (full : ℕ → List ℕ) (rows : List (List ℕ)) → rows ≡ replicate count [] → AreFilled count full 0 rows
-none_filled count full rows is = record {
-  one_each = ap length is ∙ length-replicate count [];
-  filled = λ q less. absurd (omega arith);
-  left = λ q _ less. ap (λ (rows : List (List ℕ)). row rows q) is ∙ get_or-replicate count q [] [] less;
-}
-
--- the next list is filled
-pub filled_one : {count : ℕ} {full : ℕ → List ℕ} {n : ℕ} {rows : List (List ℕ)} (list : List ℕ) → AreFilled count full n rows → n < count → list ≡ full n
-    → AreFilled count full (n + 1) (set rows n list)
-filled_one {count} {full} {n} {rows} list f less is = record {
-  one_each = length-set rows n list ∙ f.one_each;
-  filled = λ q a b. elim (eq_or_ne q n) [
-    | inl same ↦ rw same (get_or-set_same rows n list [] (omega (arith, f.one_each)) ∙ is)
-    | inr ne ↦ get_or-set_other rows n q list [] ne ∙ f.filled q (omega arith) b
-  ];
-  left = λ q a b. get_or-set_other rows n q list [] (λ e. omega arith) ∙ f.left q (omega arith) b;
-}
-
--- once all lists are filled, they are the full ones
-pub all_filled : {count : ℕ} {full : ℕ → List ℕ} {rows : List (List ℕ)} (n : ℕ) → count ≤ n → AreFilled count full n rows → rows ≡ map full (range_with_len 0 count)
-all_filled {count} {full} {rows} n all f =
-    ext_get_or [] rows (map full (range_with_len 0 count)) (f.one_each ∙ sym (length-map-range_with_len full 0 count))
-    (λ q h. f.filled q (omega (arith, f.one_each)) (omega (arith, f.one_each)) ∙ sym (get_or-map-range_with_len full 0 count q q [] (omega (arith, f.one_each)) (omega arith)))
+  pub front_kept : (n k : ℕ) (list : List ℕ) → ((j : ℕ) → j < length (row rows a) → place_of rows a (entry rows a j) ≡ j) → MatchOption (held worst a) (n ≡ 0) (λ place. n ≡ place + 1)
+      → n ≤ length (row rows a) → k ≡ n → list ≡ filter (λ b. is_no_worse rows worst a b && is_no_worse others theirs b a) (take k (row rows a)) → list ≡ reduced_row rows others worst theirs a
+  front_kept n k list sound ends fits all is =
+      let kept : ℕ → Bool = λ b. is_no_worse rows worst a b && is_no_worse others theirs b a in
+      let fails : (j : ℕ) → n ≤ j → j < length (row rows a) → kept (entry rows a j) ≡ false = λ j from on. ap (λ t. t && is_no_worse others theirs (entry rows a j) a) (behind_fails n j (sound j on) ends from) in
+      is ∙ ap (λ i. filter kept (take i (row rows a))) all ∙ sym (filter_to kept (row rows a) n (length (row rows a)) fits (omega arith) fails) ∙ ap (filter kept) (take_all (length (row rows a)) (row rows a) (omega arith))
 
 -- what is in a list is in a longer one
 contains_later : (x y : ℕ) (xs : List ℕ) → Contains xs x → Contains (y ∷ xs) x

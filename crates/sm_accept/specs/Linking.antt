@@ -1,7 +1,6 @@
 -- Sets of pairs of a market that hold a front of each reviewer's list, and how their places are linked.
-use Rattle.std.specs.Prelude.{◌≡◌, ℕ, ◌+◌, ◌<◌, ◌≤◌, ◌⊎◌, min, List, map, length, Some, None, slice_index, slice_set}
+use Rattle.std.specs.Prelude.{◌≡◌, ℕ, ◌+◌, ◌<◌, ◌≤◌, ◌⊎◌, min, List, map, length, slice_index, slice_set}
 use Rattle.sm_market.specs.Lists.{Lists, row, entry, place_of}
-use Rattle.sm_market.specs.Matching.{Places, held}
 
 -- A set of pairs: how many it holds of each reviewer's list, always the first ones. The other lists tell how the places
 -- that it holds of each proposer's list are linked: only `IsLinkedOf` reads them.
@@ -38,12 +37,6 @@ pub record IsHeldBehind (l : Lists) (ends : List ℕ) (p i k : ℕ) : Type 0 whe
   pub held : HoldsPair l ends p k
   pub behind : i < k
   pub between : (j : ℕ) → i < j → j < k → ¬ HoldsPair l ends p j
-
--- ends that hold the front of each matched reviewer's list up to its partner, and the whole list of each unmatched one
--- (Gusfield and Irving 1989, section 1.2.4)
-pub record AreReducedEnds (l : Lists) (m : Places) (ends : List ℕ) : Type 0 where
-  pub matched : (r k : ℕ) → held m.reviewers r ≡ Some k → slice_index ends r ≡ k + 1
-  pub unmatched : (r : ℕ) → held m.reviewers r ≡ None → slice_index ends r ≡ length (row l.reviewers r)
 
 -- Links go over numbers: 0 stands in front of a proposer's list, i + 1 for its place i, and one more behind the list.
 -- A number is in where its place is held; the first and the last are always in.

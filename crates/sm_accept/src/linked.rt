@@ -2,11 +2,10 @@
 
 ghost use Rattle.std.specs.Prelude.{◌≡◌, ℕ, ◌↔◌, IsTrue, ◌+◌, ◌-◌, ◌<◌, ◌≤◌, length, slice_index, slice_set, replicate, IfOk, MatchOption};
 ghost use Rattle.sm_market.specs.Lists.{row};
-ghost use Rattle.sm_accept.specs.Linking.{linking, HoldsPair, IsFirstHeld, IsHeldBehind, IsLinkedOf, AreStarts, AreLinkedBelow, AreReducedEnds, link_at, all_ends, cut_ends};
-ghost use Rattle.sm_market.specs.Pairing.{IsPairingOf};
+ghost use Rattle.sm_accept.specs.Linking.{linking, HoldsPair, IsFirstHeld, IsHeldBehind, IsLinkedOf, AreStarts, AreLinkedBelow, link_at, all_ends, cut_ends};
 
 use crate::lengths::write_lengths;
-use sm_market::{Market, Pairing};
+use sm_market::Market;
 use std::alloc::{AllocError, Global};
 use std::marker::Model;
 
@@ -56,24 +55,6 @@ impl Linked {
     {
         let mut ends = vec![in alloc; 0; market.reviewers() as usize]?;
         write_lengths(market, &mut ends);
-        Linked::with_ends(alloc, market, ends)
-    }
-
-    /// The set of the pairs of a market that stand no further back on the reviewer's list than its partner; those of unmatched
-    /// reviewers are all in it (Gusfield and Irving 1989, section 1.2.4).
-    ///
-    /// The pairing has to be made for a market of these lists. Takes time and memory in proportion to the agents and entries.
-    ///
-    /// # Errors
-    ///
-    /// `AllocError` where memory ran out, and only then.
-    pub fn up_to_partners(alloc: Global, market: &Market, m: &Pairing) -> Result<Linked, AllocError>
-        requires { IsPairingOf market.now m.now }
-        ensures made { IfOk result (λ v. IsLinkedOf market.now v) }
-        ensures front { IfOk result (λ v. AreReducedEnds market.now m.now.places v.ends) }
-    {
-        let mut ends = vec![in alloc; 0; market.reviewers() as usize]?;
-        set_partner_ends(market, m, &mut ends);
         Linked::with_ends(alloc, market, ends)
     }
 
@@ -273,21 +254,6 @@ fn set_starts(market: &Market, starts: &mut [u32]) -> u32
         starts[p as usize + 1] = links;
     }
     links
-}
-
-/// Sets the end of each matched reviewer's list behind its partner, and that of each unmatched one behind all of it.
-fn set_partner_ends(market: &Market, m: &Pairing, ends: &mut [u32])
-    requires made { IsPairingOf market.now m.now }
-    requires one_each { length ends.old ≡ length market.now.reviewers }
-    ensures front { AreReducedEnds market.now m.now.places ends.new }
-    ensures as_long { length ends.new ≡ length ends.old }
-{
-    for r in 0..market.reviewers() {
-        ends[r as usize] = match m.reviewer_place(r) {
-            Some(place) => place + 1,
-            None => market.reviewer_len(r),
-        };
-    }
 }
 
 /// Links each number of each proposer's list that is in with the ones before and behind it.

@@ -1,17 +1,15 @@
 //! The reduced lists.
 
-ghost use Rattle.std.specs.Prelude.{◌≡◌, ℕ, ◌<◌, ◌≤◌, length, IfOk, OnOk, MatchOption, [], ◌∷◌, ◌++◌, replicate, false, nat_le, ◌&&◌, if◌then◌else◌};
-ghost use Rattle.sm_market.specs.Lists.{row, entry, IsMarket};
+ghost use Rattle.std.specs.Prelude.{◌≡◌, ◌+◌, ◌<◌, ◌≤◌, length, IfOk, IfSome, OnOk, MatchOption, [], ◌∷◌, ◌++◌, if◌then◌else◌};
+ghost use Rattle.sm_market.specs.Lists.{IsMarket};
 ghost use Rattle.sm_market.specs.Matching.{Places};
 ghost use Rattle.sm_market.specs.Vectors.{rows_of, lists_of};
 ghost use Rattle.sm_market.specs.Pairing.{IsPairingOf};
 ghost use Rattle.sm_market.specs.Stable.{IsProposersBest, IsReviewersBest};
-ghost use Rattle.sm_market.specs.Reduced.{is_no_worse, reduced_row, reduced_lists_of};
-ghost use Rattle.sm_accept.specs.Linking.{IsLinkedOf, AreReducedEnds};
+ghost use Rattle.sm_market.specs.Reduced.{reduced_row, reduced_lists_of};
 ghost use Rattle.sm_accept.specs.Reducing.{KeepsStablePairs};
 
 use crate::accept::{proposer_best, reviewer_best};
-use crate::linked::Linked;
 use sm_market::{Market, Pairing, is_between};
 use std::alloc::{AllocError, Global};
 
@@ -28,8 +26,7 @@ pub struct Reduced {
 /// that it has in any stable matching, and that in turn like it no less than the worst partner that they have. The others
 /// have empty lists (Gusfield and Irving 1989, section 1.2.4).
 ///
-/// Takes time and memory in proportion to the agents and entries. All memory for the lists is taken before the first of
-/// them is filled.
+/// Takes time and memory in proportion to the agents and entries.
 ///
 /// # Errors
 ///
@@ -53,9 +50,8 @@ pub fn reduced_lists(alloc: Global, market: &Market) -> Result<Reduced, AllocErr
 /// partner by the other. Where the two pairings are the proposers' best and the reviewers' best, these are the reduced
 /// lists of the market (Gusfield and Irving 1989, section 1.2.4).
 ///
-/// The pairings have to be made for a market of these lists. Of each proposer's list only the pairs are looked at
-/// that aren't behind the reviewer's partner in `first`. Takes time and memory in proportion to the
-/// agents and entries.
+/// The pairings have to be made for a market of these lists. Of each list only the part up to the partner is looked at.
+/// Takes time in proportion to the agents and these parts, and memory in proportion to the agents and the lists that it gives.
 ///
 /// # Errors
 ///
@@ -73,99 +69,74 @@ pub fn reduced_between(
         ≡ reduced_lists_of market.now first.now.places last.now.places) }
     ensures market { OnOk result (IsMarket market.now) }
 {
-    let mut reduced = room_for(alloc, market)?;
-    let linked = Linked::up_to_partners(alloc, market, first)?;
-    fill_proposers(&mut reduced.proposers, market, &linked, first, last)?;
-    fill_reviewers(&mut reduced.reviewers, market, first, last)?;
-    Ok(reduced)
-}
-
-/// Empty lists, with room for as many agents as each agent of the market lists.
-fn room_for(alloc: Global, market: &Market) -> Result<Reduced, AllocError>
-    ensures proposers { IfOk result (λ reduced. rows_of reduced.proposers.items
-        ≡ replicate (length market.now.proposers) []) }
-    ensures reviewers { IfOk result (λ reduced. rows_of reduced.reviewers.items
-        ≡ replicate (length market.now.reviewers) []) }
-    ensures market { OnOk result (IsMarket market.now) }
-{
-    let mut proposers = Vec::with_capacity(alloc, market.proposers() as usize)?;
-    for p in 0..market.proposers() {
-        proposers.push(Vec::with_capacity(alloc, market.proposer_len(p) as usize)?)?;
-    }
-    let mut reviewers = Vec::with_capacity(alloc, market.reviewers() as usize)?;
-    for r in 0..market.reviewers() {
-        reviewers.push(Vec::with_capacity(alloc, market.reviewer_len(r) as usize)?)?;
-    }
+    let _count = market.proposers();
     Ok(Reduced {
-        proposers,
-        reviewers,
+        proposers: reviewers_between(alloc, market, first, last)?,
+        reviewers: proposers_between(alloc, market, first, last)?,
     })
 }
 
-/// Fills each proposer's list with what stands between the pairings on its list in the market.
-fn fill_proposers(
-    rows: &mut [Vec<u32>],
+/// For each proposer the reviewers that stand between the pairings on its list.
+fn reviewers_between(
+    alloc: Global,
     market: &Market,
-    linked: &Linked,
     first: &Pairing,
     last: &Pairing,
-) -> Result<(), AllocError>
-    requires empty { rows_of rows.old ≡ replicate (length market.now.proposers) [] }
-    requires linked { IsLinkedOf market.now linked.now }
-    requires front { AreReducedEnds market.now first.now.places linked.now.ends }
+) -> Result<Vec<Vec<u32>>, AllocError>
     requires first { IsPairingOf market.now first.now }
     requires last { IsPairingOf market.now last.now }
-    ensures filled { OnOk result (rows_of rows.new
+    ensures { IfOk result (λ rows. rows_of rows.items
         ≡ (reduced_lists_of market.now first.now.places last.now.places).proposers) }
 {
+    let mut rows = Vec::with_capacity(alloc, market.proposers() as usize)?;
     for p in 0..market.proposers() {
-        add_reviewers(&mut rows[p as usize], market, linked, first, last, p)?;
+        let mut row = Vec::new(alloc);
+        add_reviewers(&mut row, market, first, last, p)?;
+        rows.push(row)?;
     }
-    Ok(())
+    Ok(rows)
 }
 
-/// Fills each reviewer's list with what stands between the pairings on its list in the market.
-fn fill_reviewers(
-    rows: &mut [Vec<u32>],
+/// For each reviewer the proposers that stand between the pairings on its list.
+fn proposers_between(
+    alloc: Global,
     market: &Market,
     first: &Pairing,
     last: &Pairing,
-) -> Result<(), AllocError>
-    requires empty { rows_of rows.old ≡ replicate (length market.now.reviewers) [] }
+) -> Result<Vec<Vec<u32>>, AllocError>
     requires first { IsPairingOf market.now first.now }
     requires last { IsPairingOf market.now last.now }
-    ensures filled { OnOk result (rows_of rows.new
+    ensures { IfOk result (λ rows. rows_of rows.items
         ≡ (reduced_lists_of market.now first.now.places last.now.places).reviewers) }
 {
+    let mut rows = Vec::with_capacity(alloc, market.reviewers() as usize)?;
     for r in 0..market.reviewers() {
-        add_proposers(&mut rows[r as usize], market, first, last, r)?;
+        let mut row = Vec::new(alloc);
+        add_proposers(&mut row, market, first, last, r)?;
+        rows.push(row)?;
     }
-    Ok(())
+    Ok(rows)
 }
 
-/// Adds the reviewers that stand between the pairings on a proposer's list. Only pairs that are linked can do so.
+/// Adds the reviewers that stand between the pairings on a proposer's list.
 fn add_reviewers(
     row: &mut Vec<u32>,
     market: &Market,
-    linked: &Linked,
     first: &Pairing,
     last: &Pairing,
     p: u32,
 ) -> Result<(), AllocError>
+    requires market { IsMarket market.now }
     requires in_range { p < length market.now.proposers }
-    requires linked { IsLinkedOf market.now linked.now }
-    requires front { AreReducedEnds market.now first.now.places linked.now.ends }
     requires first { IsPairingOf market.now first.now }
     requires last { IsPairingOf market.now last.now }
     requires empty { row.old.items ≡ [] }
     ensures { OnOk result (row.new.items ≡ reduced_row market.now.proposers market.now.reviewers
         last.now.places.proposers first.now.places.reviewers p) }
 {
-    let mut held = linked.first(market, p);
-    'held: while let Some(place) = held {
+    for place in 0..front_to(last.place(p), market.proposer_len(p)) {
         let between = is_between(market, first, last, p, place);
         push_if(row, between, market.reviewer_at(p, place))?;
-        held = linked.behind(market, p, place);
     }
     Ok(())
 }
@@ -178,6 +149,7 @@ fn add_proposers(
     last: &Pairing,
     r: u32,
 ) -> Result<(), AllocError>
+    requires market { IsMarket market.now }
     requires in_range { r < length market.now.reviewers }
     requires first { IsPairingOf market.now first.now }
     requires last { IsPairingOf market.now last.now }
@@ -185,12 +157,25 @@ fn add_proposers(
     ensures { OnOk result (row.new.items ≡ reduced_row market.now.reviewers market.now.proposers
         first.now.places.reviewers last.now.places.proposers r) }
 {
-    for place in 0..market.reviewer_len(r) {
+    for place in 0..front_to(first.reviewer_place(r), market.reviewer_len(r)) {
         let p = market.proposer_at(r, place);
         let between = is_between(market, first, last, p, market.reviewer_cross(r, place));
         push_if(row, between, p)?;
     }
     Ok(())
+}
+
+/// How long the part of a list is that ends with the place which its owner holds: nobody behind it is kept. 0 where the owner is
+/// unmatched.
+fn front_to(held: Option<u32>, len: u32) -> u32
+    requires { IfSome held (λ place. place < len) }
+    ensures front { MatchOption held (result ≡ 0) (λ place. result ≡ place + 1) }
+    ensures fits { result ≤ len }
+{
+    match held {
+        Some(place) => place + 1,
+        None => 0,
+    }
 }
 
 /// Adds an agent at the end of a list, if it is to stay there.

@@ -186,21 +186,10 @@ fn keeps(rt: &impl Abort, market: &Market, linked: &Linked, wanted: (Option<u32>
 }
 
 #[test]
-fn all_pairs_linked(rt: HostRuntime) {
-    let market = two_by_two(&rt);
-    let linked = Linked::of(rt.alloc(), &market).expect(&rt, MEMORY);
-    keeps(&rt, &market, &linked, (Some(0), Some(1)));
-}
-
-#[test]
-fn pairs_linked_up_to_partners(rt: HostRuntime) {
+fn all_pairs_linked_until_some_are_cut(rt: HostRuntime) {
     let market = two_by_two(&rt);
     assert!(rt; 0 < market.reviewers());
-    let mut linked = Linked::up_to_partners(
-        rt.alloc(),
-        &market,
-        &pairing(&rt, &market, "00"),
-    ).expect(&rt, MEMORY);
+    let mut linked = Linked::of(rt.alloc(), &market).expect(&rt, MEMORY);
     keeps(&rt, &market, &linked, (Some(0), Some(1)));
     linked.cut(&market, 0, 0);
     keeps(&rt, &market, &linked, (Some(1), None));

@@ -1,11 +1,15 @@
-use Rattle.sm_accept.proofs.ReducedLemmas.{kept_first, kept_next}
+use Rattle.std.proofs.Common.{arith}
+use Rattle.sm_market.proofs.PlaceLemmas.{place_of-entry}
+use Rattle.sm_accept.proofs.ReducedLemmas.{front_kept}
 use Rattle.sm_accept.proofs.reduced.add_reviewers.Goals as goal
 
-pub held-init : goal.held-init
-held-init c = kept_first c.requires.front c.first-held.result _ c.requires.empty c.first-held.ensures
-
-pub held-preserved : goal.held-preserved
-held-preserved c =
-    let here = rw c.in-Some.is at c.held.invariant in
-    kept_next c.requires.front c.in-Some.place c.reviewer_at.result c.is_between-between.result _ _ c.behind-held.result here c.reviewer_at.ensures.named
-    (rw c.reviewer_at.ensures.named c.is_between-between.ensures) c.in_ok-push_if.ensures c.behind-held.ensures
+pub returns : goal.returns
+returns c =
+    let m = c.args.market.now in
+    let end = c.front_to-place-end in
+    front_kept m.proposers m.reviewers c.args.last.now.places.proposers c.args.first.now.places.reviewers c.args.p end.result c.loop-place.place c.loop-place.row.items
+    (place_of-entry c.requires.market.proposers c.args.p)
+    (rw c.place.ensures at end.ensures.front)
+    (omega (arith, end.ensures.fits, c.proposer_len.ensures))
+    (omega (arith, c.loop-place-test.false, c.loop-place.auto.place-end))
+    c.loop-place.invariant
