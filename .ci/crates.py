@@ -1,6 +1,7 @@
 """The crates of crates.txt, as the scripts beside this file see them."""
 
 import os
+import re
 import shutil
 
 TOP = os.path.dirname(os.path.dirname(os.path.realpath(__file__)))
@@ -58,6 +59,17 @@ def in_order(crates):
     for name in crates:
         put(name)
     return list(done)
+
+
+def seconds():
+    """For each crate in the table of docs/WORKING.md the processor seconds of its proof, its tests and its wrong bodies."""
+    found = {}
+    for line in text_of(f"{TOP}/docs/WORKING.md").splitlines():
+        cells = [it.strip() for it in line.strip().strip("|").split("|")]
+        name = re.fullmatch(r"`(\w+)`", cells[0])
+        if name and len(cells) == 6:
+            found[name[1]] = [int(cells[at] or 0) for at in (1, 2, 4)]
+    return found
 
 
 def is_program(name):
